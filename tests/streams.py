@@ -225,6 +225,16 @@ EXPLAINED = [
     (b"\xff\xfea\x00", [], "E2 BadName column 1", '  the name is "\\xFF\\xFEa\\x00", of 4 bytes\n  the file is UTF-16: iconv -f UTF-16 -t UTF-8 FILE > table.csv converts it\n'),
     (b"a;b\n1;2,3\n", [], "E5 RaggedRow row 1", "  line 2 of the file: 2 fields under 1 names\n  the file seems to be separated by semicolons: is --delimiter ';' meant?\n"),
     (b"a,b\n\n1,2\n", ["--strict"], "E25 EmptyLine row 1", "  line 2 of the file: it is empty, under more than one name\n"),
+    (b'a,b\n1,2"\n', ["--strict"], "E23 BareQuote row 1 column 2", "  line 2 of the file, column \"b\": a quote stands within a field that doesn't begin with one\n"),
+    (b"a\n1", ["--strict=full"], "E26 CutShort row 1", "  line 2 of the file: it has no line end\n"),
+    (b"a,A\n", [], "E3 RepeatedName column 2", '  "A" is the name of column 1 too, "a"\n'),
+    (b"a\n1\n", ["--null=0"], "E10 BadNull", "  a text for null has at most 16 printable ASCII bytes, and no digit, comma, double quote or space\n"),
+    (
+        b"a,b\n1,\xff\n",
+        [],
+        "E7 BadText row 1 column 2",
+        '  line 2 of the file, column "b": "\\xFF" is no UTF-8\n  the file isn\'t UTF-8: iconv -f WINDOWS-1252 -t UTF-8 FILE > table.csv, if it is Latin-1\n',
+    ),
 ]
 
 # The columns that can be a key, and what a line on standard error tells.

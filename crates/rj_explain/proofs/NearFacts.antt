@@ -1,11 +1,11 @@
 -- The nearest name, name by name.
-use Rattle.std.proofs.Common.{◌≡◌, ◌≢◌, ◌∙◌, ◌+◌, ◌<◌, ◌≤◌, ◌∷◌, [], List, ℕ, Bool, Option, None, Some, true, false, inl, inr, ap, arith, length, refl, sym, subst}
+use Rattle.std.proofs.Common.{◌≡◌, ◌≢◌, ◌∙◌, ◌+◌, ◌<◌, ◌≤◌, ◌∷◌, [], List, ℕ, Option, None, Some, inl, inr, ap, arith, length, refl, sym, subst}
 use Rattle.std.specs.Prelude.{slice_get}
 use Rattle.std.specs.Str.{bytes_eq, chars}
 use Rattle.std.proofs.Math.Nat.{eq-or-lt_of_le}
 use Rattle.std.proofs.lemmas.Bool.{cases_Bool, false≢true}
 use Rattle.std.proofs.lemmas.Slice.Eq.{bytes_eq-Decides}
-use Rattle.rj_explain.specs.Names.{AreEdits, AreFar, IsMeant, IsNearest, lowered, most_edits}
+use Rattle.rj_explain.specs.Names.{AreEdits, AreFar, IsMeant, lowered, most_edits}
 
 some-nil : (x : ℕ) (xs : List ℕ) → x ∷ xs ≢ []
 some-nil x xs e = let size = ap length e in absurd (omega (arith, size))

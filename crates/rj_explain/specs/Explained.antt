@@ -35,10 +35,11 @@ use Rattle.rj_strict.specs.Reading.{body_of, config_of, quoted}
 use Rattle.rj_settings.specs.declared.choice.SelectedColumn.{SelectedColumn}
 use Rattle.rj_strict.specs.declared.fault.StrictFault.{StrictFault}
 use Rattle.rj_strict.specs.declared.header.Header.TheVariants.{First}
-use Rattle.rj_types.specs.Columns.{kind_of, types_under}
+use Rattle.rj_types.specs.Columns.{kind_of, text_of_rest, types_under}
 use Rattle.rj_types.specs.Lists.{is_place}
 use Rattle.rj_types.specs.declared.entry.TypeEntry.{TypeEntry}
 use Rattle.rj_explain.specs.declared.inputs.Inputs.{Inputs}
+use Rattle.rj_explain.specs.declared.inputs.TableFile.{TableFile}
 use Rattle.rj_explain.specs.Hints.{file_line, file_side, file_words, separator_line}
 use Rattle.rj_explain.specs.Lines.{both_names_line, cell_of_row, clause_line, columns_line, count_line, grammar_line, key_text, mismatch_line, name_line, names_line, null_line, null_rule, ragged_line, repeated_told, row_line, selected_line}
 use Rattle.rj_explain.specs.Places.{HasNoRow, IsRow, at_column}
@@ -75,6 +76,28 @@ first_record (r ∷ rest) = r
 abbrev pub header_names : ℕ → List ℕ → List (List ℕ)
 header_names d file = first_record (records (config_of d) (strip_bom file))
 
+-- a file as it is read: its bytes and its delimiter, what is known of the types of its columns, and
+-- how strictly
+pub record ReadFile : Type 0 where
+  pub bytes : List ℕ
+  pub delimiter : ℕ
+  pub types : List TypeEntry
+  pub strict : Strictness
+
+abbrev pub file_read : TableFile → ReadFile
+file_read f = record { bytes = f.bytes.now; delimiter = f.delimiter; types = f.types.now; strict = f.strict }
+
+-- a side's file
+abbrev pub side_file : Side → Inputs → ReadFile
+side_file s inputs = record { bytes = file_of s inputs; delimiter = delimiter_of s inputs; types = types_of s inputs; strict = inputs.request.now.strict }
+
+-- a file whose columns are texts
+abbrev pub file_of_texts : ℕ → Strictness → List ℕ → ReadFile
+file_of_texts d strict bytes = record { bytes = bytes; delimiter = d; types = text_of_rest ∷ []; strict = strict }
+
+abbrev pub file_names : ReadFile → List (List ℕ)
+file_names f = header_names f.delimiter f.bytes
+
 -- those of a side's file
 abbrev pub side_names : Side → Inputs → List (List ℕ)
 side_names s inputs = header_names (delimiter_of s inputs) (file_of s inputs)
@@ -94,14 +117,12 @@ first_untyped entries names =
 abbrev pub count_told : List TypeEntry → List (List ℕ) → List ℕ
 count_told entries names = count_line (length names) (length (types_under entries names)) (first_untyped entries names)
 
-abbrev pub IsTypeCountTold : Side → Inputs → List ℕ → Type 0
-IsTypeCountTold s inputs lines =
-    ((side_names s inputs ≡ []) × (lines ≡ [])) ⊎ (lines ≡ count_told (types_of s inputs) (side_names s inputs))
+abbrev pub IsTypeCountTold : ReadFile → List ℕ → Type 0
+IsTypeCountTold f lines = ((file_names f ≡ []) × (lines ≡ [])) ⊎ (lines ≡ count_told f.types (file_names f))
 
 -- the names of a header
-abbrev pub IsTypeNameTold : Side → Inputs → List ℕ → Type 0
-IsTypeNameTold s inputs lines =
-    ((side_names s inputs ≡ []) × (lines ≡ [])) ⊎ (lines ≡ names_line (side_names s inputs))
+abbrev pub IsTypeNameTold : ReadFile → List ℕ → Type 0
+IsTypeNameTold f lines = ((file_names f ≡ []) × (lines ≡ [])) ⊎ (lines ≡ names_line (file_names f))
 
 -- the file that is in a text, or what is above the place where it stops being one
 abbrev pub IsReadStrictly : ℕ → List ℕ → File → Type 0
@@ -119,9 +140,8 @@ IsReadText d strictness.Off file text = text ≡ strip_bom file
 IsReadText d strictness.On file text = IsQuotedText d file text
 IsReadText d strictness.Full file text = IsQuotedText d file text
 
--- the same of a side's file
-abbrev pub IsSideText : Side → Inputs → List ℕ → Type 0
-IsSideText s inputs text = IsReadText (delimiter_of s inputs) inputs.request.now.strict (file_of s inputs) text
+abbrev pub IsTextOf : ReadFile → List ℕ → Type 0
+IsTextOf f text = IsReadText f.delimiter f.strict f.bytes text
 
 -- a text of its own, or that of the file
 abbrev pub text_in : Option (Vec ℕ Global) → List ℕ → List ℕ
@@ -135,19 +155,16 @@ IsRowTold d text row tells lines =
     ((HasNoRow d text 0 ⊎ HasNoRow d text row) × (lines ≡ []))
     ⊎ ((above line : ℕ) × (names fields : List (List ℕ)) × IsRow d text 0 above names × IsRow d text row line fields × tells line names fields)
 
-abbrev pub IsToldOfRow : Side → ℕ → (ℕ → List (List ℕ) → List (List ℕ) → Type 0) → Inputs → List ℕ → Type 0
-IsToldOfRow s row tells inputs lines =
-    (text : List ℕ) × IsSideText s inputs text × IsRowTold (delimiter_of s inputs) text row tells lines
+abbrev pub IsToldOfRow : ReadFile → ℕ → (ℕ → List (List ℕ) → List (List ℕ) → Type 0) → List ℕ → Type 0
+IsToldOfRow f row tells lines = (text : List ℕ) × IsTextOf f text × IsRowTold f.delimiter text row tells lines
 
 -- a cell that isn't of its column's type
-abbrev pub IsCellTold : Side → ℕ → ℕ → Inputs → List ℕ → Type 0
-IsCellTold s row column inputs lines =
-    IsToldOfRow s row (λ line names fields. lines ≡ cell_of_row (types_of s inputs) column line names fields) inputs lines
+abbrev pub IsCellTold : ReadFile → ℕ → ℕ → List ℕ → Type 0
+IsCellTold f row column lines = IsToldOfRow f row (λ line names fields. lines ≡ cell_of_row f.types column line names fields) lines
 
 -- a row whose length isn't the header's
-abbrev pub IsRaggedTold : Side → ℕ → Inputs → List ℕ → Type 0
-IsRaggedTold s row inputs lines =
-    IsToldOfRow s row (λ line names fields. lines ≡ ragged_line line (length fields) (length names)) inputs lines
+abbrev pub IsRaggedTold : ReadFile → ℕ → List ℕ → Type 0
+IsRaggedTold f row lines = IsToldOfRow f row (λ line names fields. lines ≡ ragged_line line (length fields) (length names)) lines
 
 -- the name of a column of a row under the header
 abbrev pub column_name : List (List ℕ) → ℕ → ℕ → Option (List ℕ)
@@ -159,9 +176,8 @@ IsGrammarTold d full text name why lines =
     (((file : File) × Derives d First full (body_of First text) file) × (lines ≡ []))
     ⊎ ((line : ℕ) × IsFaultLine d full text line × (lines ≡ grammar_line line name why))
 
-abbrev pub IsStrictTold : Side → ℕ → ℕ → List ℕ → Inputs → List ℕ → Type 0
-IsStrictTold s row column why inputs lines =
-    IsGrammarTold (delimiter_of s inputs) (is_full inputs.request.now.strict) (file_of s inputs) (column_name (side_names s inputs) row column) why lines
+abbrev pub IsStrictTold : ReadFile → ℕ → ℕ → List ℕ → List ℕ → Type 0
+IsStrictTold f row column why lines = IsGrammarTold f.delimiter (is_full f.strict) f.bytes (column_name (file_names f) row column) why lines
 
 -- the table without rows whose columns are those of a side's file
 abbrev pub columns_in : Side → Inputs → Result TableValue BuildRefused
@@ -180,7 +196,7 @@ IsToldOfColumns inputs tells lines =
 -- what is said of both files where neither table has a name
 abbrev pub separators_told : Inputs → TableValue → TableValue → List ℕ
 separators_told inputs left right =
-    separator_line side.Left (delimiter_of side.Left inputs) left.names ++ separator_line side.Right (delimiter_of side.Right inputs) right.names
+    separator_line (Some side.Left) (delimiter_of side.Left inputs) left.names ++ separator_line (Some side.Right) (delimiter_of side.Right inputs) right.names
 
 -- the names of both tables
 abbrev pub shared_told : Inputs → TableValue → TableValue → List ℕ
@@ -250,7 +266,7 @@ IsKeyTold s row pairs inputs lines line names fields =
     (columns : List ℕ) × AreKeyColumns s inputs columns × (lines ≡ row_line s row pairs line (key_text names fields columns))
 
 abbrev pub IsPairedTold : Side → ℕ → ℕ → Inputs → List ℕ → Type 0
-IsPairedTold s row pairs inputs lines = IsToldOfRow s row (IsKeyTold s row pairs inputs lines) inputs lines
+IsPairedTold s row pairs inputs lines = IsToldOfRow (side_file s inputs) row (IsKeyTold s row pairs inputs lines) lines
 
 -- the names under which its chosen columns are written
 pub record AreNamesWritten (request : Request) (left right : TableValue) (names : List (List ℕ)) : Type 0 where
@@ -300,43 +316,62 @@ behind_quote d =
     else codes "more than a delimiter or a line end stands behind the closing quote"
 
 -- the lines for an error of the grammar
-abbrev pub IsStrictExplained : Fault → Inputs → List ℕ → Type 0
-IsStrictExplained (fault.OpenQuote s row column) inputs lines = IsStrictTold s row column (codes "no quote closes the field that one opens here") inputs lines
-IsStrictExplained (fault.AfterQuote s row column) inputs lines = IsStrictTold s row column (behind_quote (delimiter_of s inputs)) inputs lines
-IsStrictExplained (fault.BareQuote s row column) inputs lines =
-    IsStrictTold s row column (codes "a quote stands within a field that doesn't begin with one") inputs lines
-IsStrictExplained (fault.BareReturn s row column) inputs lines =
-    IsStrictTold s row column (codes "no line feed follows the carriage return behind the field") inputs lines
-IsStrictExplained (fault.EmptyLine s row) inputs lines = IsStrictTold s row 0 (codes "it is empty, under more than one name") inputs lines
-IsStrictExplained (fault.CutShort s row) inputs lines = IsStrictTold s row 0 (codes "it has no line end") inputs lines
-IsStrictExplained _ inputs lines = lines ≡ []
+abbrev pub IsStrictExplained : Fault → ReadFile → List ℕ → Type 0
+IsStrictExplained (fault.OpenQuote s row column) f lines = IsStrictTold f row column (codes "no quote closes the field that one opens here") lines
+IsStrictExplained (fault.AfterQuote s row column) f lines = IsStrictTold f row column (behind_quote f.delimiter) lines
+IsStrictExplained (fault.BareQuote s row column) f lines =
+    IsStrictTold f row column (codes "a quote stands within a field that doesn't begin with one") lines
+IsStrictExplained (fault.BareReturn s row column) f lines =
+    IsStrictTold f row column (codes "no line feed follows the carriage return behind the field") lines
+IsStrictExplained (fault.EmptyLine s row) f lines = IsStrictTold f row 0 (codes "it is empty, under more than one name") lines
+IsStrictExplained (fault.CutShort s row) f lines = IsStrictTold f row 0 (codes "it has no line end") lines
+IsStrictExplained _ f lines = lines ≡ []
+
+-- the lines for the place of an error in a file
+abbrev pub IsPlaceInFile : Fault → ReadFile → List ℕ → Type 0
+IsPlaceInFile (fault.BadName s column) f lines = lines ≡ name_line (at_column column (file_names f))
+IsPlaceInFile (fault.RepeatedName s column) f lines = lines ≡ repeated_told (file_names f) (at_column column (file_names f))
+IsPlaceInFile (fault.TypeCount s) f lines = IsTypeCountTold f lines
+IsPlaceInFile (fault.TypeName s name) f lines = IsTypeNameTold f lines
+IsPlaceInFile (fault.TooManyColumns s) f lines = lines ≡ columns_line (length (file_names f))
+IsPlaceInFile fault.BadNull f lines = lines ≡ null_rule
+IsPlaceInFile (fault.RaggedRow s row) f lines = IsRaggedTold f row lines
+IsPlaceInFile (fault.BadInteger s row column) f lines = IsCellTold f row column lines
+IsPlaceInFile (fault.BadText s row column) f lines = IsCellTold f row column lines
+IsPlaceInFile told f lines = IsStrictExplained told f lines
+
+-- the side in whose file the place of an error is
+abbrev pub place_side : Fault → Option Side
+place_side (fault.CutShort s row) = Some s
+place_side f = file_side f
+
+abbrev pub IsPlaceIn : Option Side → Fault → Inputs → List ℕ → Type 0
+IsPlaceIn None f inputs lines = lines ≡ []
+IsPlaceIn (Some s) f inputs lines = IsPlaceInFile f (side_file s inputs) lines
+
+abbrev pub IsPlaceInSide : Fault → Inputs → List ℕ → Type 0
+IsPlaceInSide f inputs lines = IsPlaceIn (place_side f) f inputs lines
 
 -- The lines for the place of an error. No definition fixes those of E11.
 abbrev pub IsPlaceTold : Fault → Inputs → List ℕ → Type 0
-IsPlaceTold (fault.BadName s column) inputs lines = lines ≡ name_line (at_column column (side_names s inputs))
-IsPlaceTold (fault.RepeatedName s column) inputs lines =
-    lines ≡ repeated_told (side_names s inputs) (at_column column (side_names s inputs))
-IsPlaceTold (fault.TooManyColumns s) inputs lines = lines ≡ columns_line (length (side_names s inputs))
-IsPlaceTold (fault.RaggedRow s row) inputs lines = IsRaggedTold s row inputs lines
-IsPlaceTold (fault.BadInteger s row column) inputs lines = IsCellTold s row column inputs lines
-IsPlaceTold (fault.BadText s row column) inputs lines = IsCellTold s row column inputs lines
 IsPlaceTold fault.UnknownColumn inputs lines = IsNameTold inputs lines
 IsPlaceTold fault.AmbiguousColumn inputs lines = IsNameTold inputs lines
 IsPlaceTold fault.RepeatedUsing inputs lines = IsNameTold inputs lines
 IsPlaceTold fault.TypeMismatch inputs lines = IsMismatchTold inputs lines
-IsPlaceTold (fault.TypeCount s) inputs lines = IsTypeCountTold s inputs lines
-IsPlaceTold (fault.TypeName s name) inputs lines = IsTypeNameTold s inputs lines
 IsPlaceTold (fault.SharedTypeName name) inputs lines = IsSharedNameTold inputs lines
 IsPlaceTold (fault.Syntax byte) inputs lines = Unit {0}
 IsPlaceTold (fault.AmbiguousNull row column) inputs lines = IsNullTold row column inputs lines
 IsPlaceTold (fault.SelectedName number) inputs lines = IsSelectedTold number inputs lines
 IsPlaceTold fault.BadNull inputs lines = lines ≡ null_rule
-IsPlaceTold f inputs lines = IsStrictExplained f inputs lines
+IsPlaceTold f inputs lines = IsPlaceInSide f inputs lines
 
--- what is said of the whole file in which an error is
+-- what is said of the whole file in which an error is, by the file's label
+abbrev pub table_told : Option Side → Fault → ReadFile → List ℕ
+table_told label told f = file_line label (file_words label f.delimiter told f.bytes (file_names f))
+
 abbrev pub file_told_of : Fault → Inputs → Option Side → List ℕ
 file_told_of f inputs None = []
-file_told_of f inputs (Some s) = file_line s (file_words s (delimiter_of s inputs) f (file_of s inputs) (side_names s inputs))
+file_told_of f inputs (Some s) = table_told (Some s) f (side_file s inputs)
 
 abbrev pub file_told : Fault → Inputs → List ℕ
 file_told f inputs = file_told_of f inputs (file_side f)
@@ -344,3 +379,14 @@ file_told f inputs = file_told_of f inputs (file_side f)
 -- the lines for an error
 abbrev pub IsExplained : Fault → Inputs → List ℕ → Type 0
 IsExplained f inputs lines = (place : List ℕ) × IsPlaceTold f inputs place × (lines ≡ place ++ file_told f inputs)
+
+-- the same for the only file of a run
+abbrev pub only_file_told_of : Fault → ReadFile → Option Side → List ℕ
+only_file_told_of told f None = []
+only_file_told_of told f (Some s) = table_told None told f
+
+abbrev pub only_file_told : Fault → ReadFile → List ℕ
+only_file_told told f = only_file_told_of told f (file_side told)
+
+abbrev pub IsExplainedAlone : Fault → ReadFile → List ℕ → Type 0
+IsExplainedAlone told f lines = (place : List ℕ) × IsPlaceInFile told f place × (lines ≡ place ++ only_file_told told f)

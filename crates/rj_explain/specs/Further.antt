@@ -7,7 +7,7 @@ use Rattle.rj_fault.specs.declared.fault.Fault.TheVariants as fault
 use Rattle.rj_fault.specs.declared.fault.Side.{Side}
 use Rattle.rj_fault.specs.declared.fault.Side.TheVariants as side
 use Rattle.rj_types.specs.Columns.{types_under}
-use Rattle.rj_explain.specs.Explained.{IsSideText, delimiter_of, types_of}
+use Rattle.rj_explain.specs.Explained.{IsTextOf, delimiter_of, side_file, types_of}
 use Rattle.rj_explain.specs.Places.{HasNoRow, IsRow, at_column}
 use Rattle.rj_explain.specs.Shown.{shown}
 use Rattle.rj_explain.specs.declared.further.TypedColumn.{TypedColumn}
@@ -86,7 +86,7 @@ AreToldIn s row number inputs text lines =
 
 -- the same of a side's file
 abbrev pub AreFurtherTold : Side → ℕ → ℕ → Inputs → List ℕ → Type 0
-AreFurtherTold s row number inputs lines = (text : List ℕ) × IsSideText s inputs text × AreToldIn s row number inputs text lines
+AreFurtherTold s row number inputs lines = (text : List ℕ) × IsTextOf (side_file s inputs) text × AreToldIn s row number inputs text lines
 
 -- the lines for the further cells of an error of a cell
 abbrev pub IsFurtherExplained : Fault → Inputs → List ℕ → Type 0

@@ -1,10 +1,10 @@
 -- What is said of a whole file that is no CSV in UTF-8 with its delimiter.
 use Rattle.std.specs.Prelude.{ℕ, Bool, false, ◌==◌, ◌||◌, ◌&&◌, not, List, [], ◌∷◌, ◌++◌, codes, nat_eq, Option, None, Some, if◌then◌else◌}
 use Rattle.std.specs.List.{list_any, starts_with}
-use Rattle.rj_fault.specs.Faults.{side_text}
 use Rattle.rj_fault.specs.declared.fault.Fault.{Fault}
 use Rattle.rj_fault.specs.declared.fault.Fault.TheVariants as fault
 use Rattle.rj_fault.specs.declared.fault.Side.{Side}
+use Rattle.rj_fault.specs.declared.fault.Side.TheVariants as side
 use Rattle.rj_explain.specs.Shown.{is_text}
 use Rattle.rj_explain.specs.declared.hints.Separator.{Separator}
 use Rattle.rj_explain.specs.declared.hints.Separator.TheVariants as separator
@@ -61,32 +61,44 @@ shell_word separator.Tab = codes "tab"
 shell_word separator.Bar = codes "'|'"
 shell_word separator.Comma = codes "','"
 
--- what is said of a side's file that a sign separates
-abbrev pub separator_words : Side → Option Separator → List ℕ
-separator_words s None = []
-separator_words s (Some sign) =
-    codes "seems to be separated by " ++ (plural sign ++ (codes ": is --" ++ (side_text s ++ (codes "-delimiter " ++ (shell_word sign ++ codes " meant?")))))
+-- what stands before the word for a file: which side's it is, unless it is the only one
+abbrev pub before_file : Option Side → List ℕ
+before_file (Some side.Left) = codes "left "
+before_file (Some side.Right) = codes "right "
+before_file None = []
+
+-- the same before the name of an option
+abbrev pub before_option : Option Side → List ℕ
+before_option (Some side.Left) = codes "left-"
+before_option (Some side.Right) = codes "right-"
+before_option None = []
+
+-- what is said of a file that a sign separates
+abbrev pub separator_words : Option Side → Option Separator → List ℕ
+separator_words label None = []
+separator_words label (Some sign) =
+    codes "seems to be separated by " ++ (plural sign ++ (codes ": is --" ++ (before_option label ++ (codes "delimiter " ++ (shell_word sign ++ codes " meant?")))))
 
 -- the first of two that isn't empty
 abbrev pub first_words : List ℕ → List ℕ → List ℕ
 first_words [] more = more
 first_words (b ∷ words) more = b ∷ words
 
--- what is said of a side's file with this delimiter and these names in its header
-abbrev pub file_words : Side → ℕ → Fault → List ℕ → List (List ℕ) → List ℕ
-file_words s d told file names =
-    first_words (first_words (kind_words file) (foreign_words told file names)) (separator_words s (separator_of d names))
+-- what is said of a file with this delimiter and these names in its header
+abbrev pub file_words : Option Side → ℕ → Fault → List ℕ → List (List ℕ) → List ℕ
+file_words label d told file names =
+    first_words (first_words (kind_words file) (foreign_words told file names)) (separator_words label (separator_of d names))
 
 -- a line for it
-abbrev pub file_line : Side → List ℕ → List ℕ
-file_line s [] = []
-file_line s (b ∷ words) = codes "  the " ++ (side_text s ++ (codes " file " ++ ((b ∷ words) ++ 10 ∷ [])))
+abbrev pub file_line : Option Side → List ℕ → List ℕ
+file_line label [] = []
+file_line label (b ∷ words) = codes "  the " ++ (before_file label ++ (codes "file " ++ ((b ∷ words) ++ 10 ∷ [])))
 
--- a line for the sign that separates the fields of a side's file, by the names of its columns
-abbrev pub separator_line : Side → ℕ → List (List ℕ) → List ℕ
-separator_line s d names = file_line s (separator_words s (separator_of d names))
+-- a line for the sign that separates the fields of a file, by the names of its columns
+abbrev pub separator_line : Option Side → ℕ → List (List ℕ) → List ℕ
+separator_line label d names = file_line label (separator_words label (separator_of d names))
 
--- the side in whose file an error is
+-- the side in whose file an error is, if more is to be said of the whole file
 abbrev pub file_side : Fault → Option Side
 file_side (fault.BadName s column) = Some s
 file_side (fault.RepeatedName s column) = Some s

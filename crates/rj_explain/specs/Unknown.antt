@@ -1,7 +1,8 @@
 -- What is said of a name that means no column: the names that there are, and the one that may have been
 -- meant.
-use Rattle.std.specs.Prelude.{ℕ, ◌≡◌, ◌==◌, ◌&&◌, ◌||◌, if◌then◌else◌, Bool, false, not, true, List, [], ◌∷◌, ◌++◌, codes, MatchOption, Option, None, Some, option_map, slice_get}
-use Rattle.std.specs.List.{find, list_any}
+use Rattle.std.specs.Prelude.{ℕ, ◌≡◌, ◌-◌, ◌==◌, ◌&&◌, ◌||◌, if◌then◌else◌, Bool, false, not, true, List, [], ◌∷◌, ◌++◌, codes, is_some, length, nat_eq, MatchOption, Option, None, Some, option_and_then, option_map, slice_get, take}
+use Rattle.std.specs.Char.{is_ascii_whitespace}
+use Rattle.std.specs.List.{ends_with, find, list_any, suffix_len}
 use Rattle.std.specs.Option.{option_or}
 use Rattle.std.specs.Str.{bytes_eq, str_eq_ignore_ascii_case}
 use Rattle.rj_columns.specs.Tables.{TableValue}
@@ -120,6 +121,22 @@ is_quote (Some b) = b == 34
 abbrev pub is_quoted_at : List ℕ → ℕ → Bool
 is_quoted_at clause at = is_quote (slice_get clause at)
 
+-- a text without the white space at its end
+abbrev pub trimmed : List ℕ → List ℕ
+trimmed text = take (length text - suffix_len is_ascii_whitespace text) text
+
+-- what comes before a sign with which a text ends
+abbrev pub before_end : ℕ → List ℕ → Option (List ℕ)
+before_end sign text = if ends_with nat_eq text (sign ∷ []) then Some (take (length text - 1) text) else None
+
+-- the same but for white space behind the sign
+abbrev pub before_sign : ℕ → List ℕ → Option (List ℕ)
+before_sign sign text = before_end sign (trimmed text)
+
+-- a double quote and then a point come before a byte of a clause
+abbrev pub is_behind_quote : List ℕ → ℕ → Bool
+is_behind_quote clause at = is_some (option_and_then (before_sign 34) (before_sign 46 (take at clause)))
+
 -- the side that a qualifier means; one that isn't delimited ignores case
 abbrev pub side_meant : List ℕ → Bool → Option Side
 side_meant qualifier delimited =
@@ -143,11 +160,11 @@ IsBehindTold (Some s) qualifier names wanted delimited words = IsTableTold s nam
 abbrev pub name_found : List ℕ → RefusedColumn → Name
 name_found clause found = record { text = found.name; delimited = is_quoted_at clause found.at }
 
--- a name of a clause that means no column. No definition says whether its qualifier is delimited.
+-- a name of a clause that means no column; its qualifier is delimited if a double quote ends it
 abbrev pub IsUnknownTold : List ℕ → RefusedColumn → Option (List ℕ) → BothNames → List ℕ → Type 0
 IsUnknownTold clause found None names words = IsBareTold (name_found clause found) names words
 IsUnknownTold clause found (Some qualifier) names words =
-    (delimited : Bool) × IsBehindTold (side_meant qualifier delimited) qualifier names found.name (is_quoted_at clause found.at) words
+    IsBehindTold (side_meant qualifier (is_behind_quote clause found.at)) qualifier names found.name (is_quoted_at clause found.at) words
 
 -- a name of a clause, by the reason why it is refused
 abbrev pub IsReasonTold : BindRefused → List ℕ → RefusedColumn → BothNames → List ℕ → Type 0

@@ -3,16 +3,15 @@
 ghost use Rattle.std.specs.Prelude.{◌≡◌, ◌-◌, ◌⊎◌, ℕ, IfOk, List, MatchOption, length, slice_get, string_bytes};
 ghost use Rattle.rj_csv_io.specs.Pieces.{names_in};
 ghost use Rattle.rj_types.specs.Columns as columns;
-ghost use Rattle.rj_explain.specs.Explained.{IsCellTold, IsRaggedTold, IsSideText, delimiter_of, types_of};
+ghost use Rattle.rj_explain.specs.Explained.{IsCellTold, IsRaggedTold, IsTextOf, file_read};
 ghost use Rattle.rj_explain.specs.Lines as lines;
 ghost use Rattle.rj_explain.specs.Lines.{cell_of_row};
 ghost use Rattle.rj_explain.specs.Places.{HasNoRow, IsRow};
 
-use crate::inputs::{Inputs, text_of};
+use crate::inputs::{TableFile, text_of};
 use crate::row::{Row, field_at, find_row};
 use crate::shown::{Shown, Wanted, WantedRule};
 use rj_columns::ColumnType;
-use rj_fault::Side;
 use rj_strict::Delimiter;
 use std::alloc::{AllocError, Global};
 
@@ -23,14 +22,13 @@ use std::alloc::{AllocError, Global};
 /// It fails only when memory runs out.
 pub(crate) fn kind_at(
     alloc: Global,
-    inputs: &Inputs<'_, '_>,
-    side: Side,
+    file: &TableFile<'_>,
     header: &Row,
     column: u64,
 ) -> Result<Option<ColumnType>, AllocError>
-    ensures { IfOk result (λ o. o ≡ slice_get (columns.types_under (types_of side inputs.now) (names_in header.now.record)) (column - 1)) }
+    ensures { IfOk result (λ o. o ≡ slice_get (columns.types_under file.now.types.now (names_in header.now.record)) (column - 1)) }
 {
-    let kinds = inputs.kinds(alloc, side, &header.record)?;
+    let kinds = file.kinds(alloc, &header.record)?;
     match kinds.get((column as usize).saturating_sub(1)) {
         Some(kind) => Ok(Some(*kind)),
         None => Ok(None),
@@ -87,39 +85,37 @@ fn header_and_row(
     }
 }
 
-/// Both of a side's file, where it has them.
+/// Both of a file, where it has them.
 ///
 /// # Errors
 ///
 /// It fails only where memory is refused.
 pub(crate) fn find_both(
     alloc: Global,
-    inputs: &Inputs<'_, '_>,
-    side: Side,
+    file: &TableFile<'_>,
     row: u64,
 ) -> Result<Option<HeaderAndRow>, AllocError>
-    ensures { IfOk result (λ o. (text : List ℕ) × IsSideText side inputs.now text
-        × MatchOption o (HasNoRow (delimiter_of side inputs.now) text 0 ⊎ HasNoRow (delimiter_of side inputs.now) text row)
-        (λ b. IsRow (delimiter_of side inputs.now) text 0 b.header.line (names_in b.header.record)
-        × IsRow (delimiter_of side inputs.now) text row b.row.line (names_in b.row.record))) }
+    ensures { IfOk result (λ o. (text : List ℕ) × IsTextOf (file_read file.now) text
+        × MatchOption o (HasNoRow file.now.delimiter text 0 ⊎ HasNoRow file.now.delimiter text row)
+        (λ b. IsRow file.now.delimiter text 0 b.header.line (names_in b.header.record)
+        × IsRow file.now.delimiter text row b.row.line (names_in b.row.record))) }
 {
-    let quoted = inputs.quoted_text(alloc, side)?;
-    let text = text_of(&quoted, inputs.file(side));
-    header_and_row(alloc, text, inputs.delimiter(side), row)
+    let quoted = file.quoted_text(alloc)?;
+    let text = text_of(&quoted, file.bytes);
+    header_and_row(alloc, text, file.delimiter, row)
 }
 
 // What is told of a cell in a row at hand.
 fn lines_of_cell(
     alloc: Global,
-    inputs: &Inputs<'_, '_>,
-    side: Side,
+    file: &TableFile<'_>,
     found: &HeaderAndRow,
     column: u64,
 ) -> Result<String, AllocError>
     ensures { IfOk result (λ s. string_bytes s
-        ≡ cell_of_row (types_of side inputs.now) column found.now.row.line (names_in found.now.header.record) (names_in found.now.row.record)) }
+        ≡ cell_of_row file.now.types.now column found.now.row.line (names_in found.now.header.record) (names_in found.now.row.record)) }
 {
-    let Some(kind) = kind_at(alloc, inputs, side, &found.header, column)? else {
+    let Some(kind) = kind_at(alloc, file, &found.header, column)? else {
         return Ok(String::new(alloc));
     };
     let Some(name) = field_at(alloc, &found.header.record, column)? else {
@@ -139,15 +135,14 @@ fn lines_of_cell(
 /// It fails only when memory runs out.
 pub(crate) fn cell_lines(
     alloc: Global,
-    inputs: &Inputs<'_, '_>,
-    side: Side,
+    file: &TableFile<'_>,
     row: u64,
     column: u64,
 ) -> Result<String, AllocError>
-    ensures { IfOk result (λ s. IsCellTold side row column inputs.now (string_bytes s)) }
+    ensures { IfOk result (λ s. IsCellTold (file_read file.now) row column (string_bytes s)) }
 {
-    match find_both(alloc, inputs, side, row)? {
-        Some(found) => lines_of_cell(alloc, inputs, side, &found, column),
+    match find_both(alloc, file, row)? {
+        Some(found) => lines_of_cell(alloc, file, &found, column),
         None => Ok(String::new(alloc)),
     }
 }
@@ -169,13 +164,12 @@ fn ragged_line(alloc: Global, found: &HeaderAndRow) -> Result<String, AllocError
 /// It fails only when memory runs out.
 pub(crate) fn ragged_lines(
     alloc: Global,
-    inputs: &Inputs<'_, '_>,
-    side: Side,
+    file: &TableFile<'_>,
     row: u64,
 ) -> Result<String, AllocError>
-    ensures { IfOk result (λ s. IsRaggedTold side row inputs.now (string_bytes s)) }
+    ensures { IfOk result (λ s. IsRaggedTold (file_read file.now) row (string_bytes s)) }
 {
-    match find_both(alloc, inputs, side, row)? {
+    match find_both(alloc, file, row)? {
         Some(found) => ragged_line(alloc, &found),
         None => Ok(String::new(alloc)),
     }

@@ -1,14 +1,15 @@
 //! Names of a clause that are refused.
 
-ghost use Rattle.std.specs.Prelude.{◌≡◌, ◌⊎◌, ℕ, Bool, IfOk, List, MatchOption, None, Ok, slice_get, string_bytes};
+ghost use Rattle.std.specs.Prelude.{◌≡◌, ◌⊎◌, ℕ, IfOk, List, MatchOption, None, Ok, slice_get, string_bytes};
 ghost use Rattle.std.specs.List.{list_any};
+ghost use Rattle.std.specs.Option.{option_copied};
 ghost use Rattle.rj_condition.specs.Names.{matches};
 ghost use Rattle.rj_csv_io.specs.Pieces.{names_in};
 ghost use Rattle.rj_fault.specs.declared.fault.Side.TheVariants as sides;
 ghost use Rattle.rj_explain.specs.Explained.{AreColumns, IsNameTold, IsRefusalTold, IsToldOfName, columns_in, refusal_told, side_names};
 ghost use Rattle.rj_explain.specs.Lines.{clause_line};
 ghost use Rattle.rj_explain.specs.Unknown as unknown;
-ghost use Rattle.rj_explain.specs.Unknown.{IsBareTold, IsBehindTold, IsLackTold, IsReasonTold, IsUnknownTold, both_names, is_quoted_at, name_found, no_side_words, side_meant, table_at};
+ghost use Rattle.rj_explain.specs.Unknown.{IsBareTold, IsBehindTold, IsLackTold, IsReasonTold, IsUnknownTold, both_names, is_behind_quote, is_quoted_at, name_found, no_side_words, side_meant, table_at};
 
 use crate::hints::separator_lines;
 use crate::inputs::Inputs;
@@ -38,7 +39,7 @@ fn table_under(
     requires { names_in header.now ≡ side_names side inputs.now }
     ensures { IfOk result (λ o. AreColumns side inputs.now o) }
 {
-    let kinds = inputs.kinds(alloc, side, header)?;
+    let kinds = inputs.table(side).kinds(alloc, header)?;
     match header.table(alloc, kinds.as_slice()) {
         Ok(table) => Ok(Some(table)),
         Err(ReadRefused::Memory) => Err(AllocError),
@@ -54,7 +55,7 @@ pub(crate) fn columns_of(
 ) -> Result<Option<Table>, AllocError>
     ensures { IfOk result (λ o. AreColumns side inputs.now o) }
 {
-    match inputs.header(alloc, side)? {
+    match inputs.table(side).header(alloc)? {
         Some(header) => table_under(alloc, inputs, side, &header),
         None => Ok(None),
     }
@@ -143,13 +144,24 @@ fn side_of(qualifier: &str, delimited: bool) -> Option<Side>
     None
 }
 
+// What comes before a sign with which a text ends, but for white space.
+fn before_sign(text: &[u8], sign: u8) -> Option<&[u8]>
+    ensures { option_copied result ≡ unknown.before_sign sign text.now }
+{
+    let text = text.trim_ascii_end();
+    if text.ends_with(&[sign]) {
+        return Some(&text[..text.len() - 1]);
+    }
+    None
+}
+
 // Whether a delimited name and a point come before a byte of a clause.
-fn is_behind_delimited(clause: &str, at: u64) -> bool {
-    let Some((before, _)) = clause.split_at_checked(at as usize) else {
-        return false;
-    };
-    match before.trim_ascii_end().strip_suffix('.') {
-        Some(qualifier) => qualifier.trim_ascii_end().ends_with('"'),
+fn is_behind_delimited(clause: &str, at: u64) -> bool
+    ensures { result ≡ is_behind_quote clause.now at }
+{
+    let bytes = clause.as_bytes();
+    match before_sign(&bytes[..(at as usize).min(bytes.len())], b'.') {
+        Some(qualifier) => before_sign(qualifier, b'"').is_some(),
         None => false,
     }
 }
@@ -196,7 +208,7 @@ fn words_of_qualified(
     qualifier: &str,
     columns: &BothColumns,
 ) -> Result<String, AllocError>
-    ensures { IfOk result (λ s. (delimited : Bool) × IsBehindTold (side_meant qualifier.now delimited) qualifier.now
+    ensures { IfOk result (λ s. IsBehindTold (side_meant qualifier.now (is_behind_quote clause.now found.now.at)) qualifier.now
         (both_names columns.now.left columns.now.right) found.now.name (is_quoted_at clause.now found.now.at) (string_bytes s)) }
 {
     let side = side_of(qualifier, is_behind_delimited(clause, found.at));

@@ -2,23 +2,25 @@
 
 ghost use Rattle.std.specs.Prelude.{◌≡◌, IfOk, string_bytes};
 ghost use Rattle.rj_explain.specs.Explained as explained;
-ghost use Rattle.rj_explain.specs.Explained.{IsExplained, IsPlaceTold, IsStrictExplained};
+ghost use Rattle.rj_explain.specs.Explained.{IsExplained, IsExplainedAlone, IsPlaceInFile, IsPlaceInSide, IsPlaceTold, IsStrictExplained, file_of_texts, file_read, file_told, only_file_told, place_side};
 
 use crate::cells::{cell_lines, ragged_lines};
 use crate::clause::name_lines;
 use crate::headers::{
     bad_name_lines, repeated_name_lines, too_many_lines, type_count_lines, type_name_lines,
 };
-use crate::hints::file_lines;
-use crate::inputs::Inputs;
+use crate::hints::{file_side, table_line};
+use crate::inputs::{Inputs, TableFile};
 use crate::joined::null_text_lines;
 use crate::mismatch::mismatch_lines;
 use crate::selected::selected_lines;
 use crate::shared::shared_name_lines;
 use crate::strict::grammar_lines;
 use crate::syntax::syntax_lines;
-use rj_fault::Fault;
+use rj_fault::{Fault, Side};
+use rj_line::Strictness;
 use rj_strict::Delimiter;
+use rj_types::{TypeEntry, with_texts};
 use std::alloc::{AllocError, Global};
 
 // Why a text isn't of RFC 4180's grammar.
@@ -52,30 +54,62 @@ fn behind_quote(delimiter: Delimiter) -> &'static str
 }
 
 // The lines for an error of RFC 4180's grammar; for other errors there are none.
-fn explain_grammar(
+fn explain_grammar(alloc: Global, fault: &Fault, file: &TableFile<'_>) -> Result<String, AllocError>
+    ensures { IfOk result (λ s. IsStrictExplained fault.now (file_read file.now) (string_bytes s)) }
+{
+    match *fault {
+        Fault::OpenQuote(_, row, column) => grammar_lines(alloc, file, row, column, NOT_CLOSED),
+        Fault::AfterQuote(_, row, column) => {
+            let why = behind_quote(file.delimiter);
+            grammar_lines(alloc, file, row, column, why)
+        }
+        Fault::BareQuote(_, row, column) => grammar_lines(alloc, file, row, column, QUOTE_WITHIN),
+        Fault::BareReturn(_, row, column) => grammar_lines(alloc, file, row, column, NO_LINE_FEED),
+        Fault::EmptyLine(_, row) => grammar_lines(alloc, file, row, 0, EMPTY),
+        Fault::CutShort(_, row) => grammar_lines(alloc, file, row, 0, CUT_SHORT),
+        _ => Ok(String::new(alloc)),
+    }
+}
+
+// The lines for the place of an error in a file.
+fn explain_in_file(alloc: Global, fault: &Fault, file: &TableFile<'_>) -> Result<String, AllocError>
+    ensures { IfOk result (λ s. IsPlaceInFile fault.now (file_read file.now) (string_bytes s)) }
+{
+    match *fault {
+        Fault::BadName(_, column) => bad_name_lines(alloc, file, column),
+        Fault::RepeatedName(_, column) => repeated_name_lines(alloc, file, column),
+        Fault::TypeCount(_) => type_count_lines(alloc, file),
+        Fault::TypeName(_, _) => type_name_lines(alloc, file),
+        Fault::TooManyColumns(_) => too_many_lines(alloc, file),
+        Fault::BadNull => String::from_str(alloc, NULL_RULE),
+        Fault::RaggedRow(_, row) => ragged_lines(alloc, file, row),
+        Fault::BadInteger(_, row, column) => cell_lines(alloc, file, row, column),
+        Fault::BadText(_, row, column) => cell_lines(alloc, file, row, column),
+        _ => explain_grammar(alloc, fault, file),
+    }
+}
+
+// The side in whose file the place of an error is.
+fn place_side(fault: &Fault) -> Option<Side>
+    ensures { result ≡ place_side fault.now }
+{
+    match *fault {
+        Fault::CutShort(side, _) => Some(side),
+        _ => file_side(fault),
+    }
+}
+
+// The lines for the place of an error in a side's file.
+fn explain_in_side(
     alloc: Global,
     fault: &Fault,
     inputs: &Inputs<'_, '_>,
 ) -> Result<String, AllocError>
-    ensures { IfOk result (λ s. IsStrictExplained fault.now inputs.now (string_bytes s)) }
+    ensures { IfOk result (λ s. IsPlaceInSide fault.now inputs.now (string_bytes s)) }
 {
-    match *fault {
-        Fault::OpenQuote(side, row, column) => {
-            grammar_lines(alloc, inputs, side, row, column, NOT_CLOSED)
-        }
-        Fault::AfterQuote(side, row, column) => {
-            let why = behind_quote(inputs.delimiter(side));
-            grammar_lines(alloc, inputs, side, row, column, why)
-        }
-        Fault::BareQuote(side, row, column) => {
-            grammar_lines(alloc, inputs, side, row, column, QUOTE_WITHIN)
-        }
-        Fault::BareReturn(side, row, column) => {
-            grammar_lines(alloc, inputs, side, row, column, NO_LINE_FEED)
-        }
-        Fault::EmptyLine(side, row) => grammar_lines(alloc, inputs, side, row, 0, EMPTY),
-        Fault::CutShort(side, row) => grammar_lines(alloc, inputs, side, row, 0, CUT_SHORT),
-        _ => Ok(String::new(alloc)),
+    match place_side(fault) {
+        Some(side) => explain_in_file(alloc, fault, &inputs.table(side)),
+        None => Ok(String::new(alloc)),
     }
 }
 
@@ -88,10 +122,6 @@ fn explain_place(
     ensures { IfOk result (λ s. IsPlaceTold fault.now inputs.now (string_bytes s)) }
 {
     match *fault {
-        Fault::BadName(side, column) => bad_name_lines(alloc, inputs, side, column),
-        Fault::RepeatedName(side, column) => repeated_name_lines(alloc, inputs, side, column),
-        Fault::TypeCount(side) => type_count_lines(alloc, inputs, side),
-        Fault::TypeName(side, _) => type_name_lines(alloc, inputs, side),
         Fault::SharedTypeName(_) => shared_name_lines(alloc, inputs),
         Fault::Syntax(byte) => syntax_lines(alloc, inputs, byte),
         Fault::UnknownColumn | Fault::AmbiguousColumn | Fault::RepeatedUsing => {
@@ -100,12 +130,18 @@ fn explain_place(
         Fault::TypeMismatch => mismatch_lines(alloc, inputs),
         Fault::AmbiguousNull(row, column) => null_text_lines(alloc, inputs, row, column),
         Fault::SelectedName(number) => selected_lines(alloc, inputs, number),
-        Fault::TooManyColumns(side) => too_many_lines(alloc, inputs, side),
         Fault::BadNull => String::from_str(alloc, NULL_RULE),
-        Fault::RaggedRow(side, row) => ragged_lines(alloc, inputs, side, row),
-        Fault::BadInteger(side, row, column) => cell_lines(alloc, inputs, side, row, column),
-        Fault::BadText(side, row, column) => cell_lines(alloc, inputs, side, row, column),
-        _ => explain_grammar(alloc, fault, inputs),
+        _ => explain_in_side(alloc, fault, inputs),
+    }
+}
+
+// The line for the whole file in which an error is.
+fn file_lines(alloc: Global, fault: &Fault, inputs: &Inputs<'_, '_>) -> Result<String, AllocError>
+    ensures { IfOk result (λ s. string_bytes s ≡ file_told fault.now inputs.now) }
+{
+    match file_side(fault) {
+        Some(side) => table_line(alloc, fault, &inputs.table(side), Some(side)),
+        None => Ok(String::new(alloc)),
     }
 }
 
@@ -123,4 +159,68 @@ pub fn explain(alloc: Global, fault: &Fault, inputs: &Inputs<'_, '_>) -> Result<
     let more = file_lines(alloc, fault, inputs)?;
     lines.push_str(more.as_str())?;
     Ok(lines)
+}
+
+// The line for the only file, if an error is in it.
+fn only_file_lines(alloc: Global, fault: &Fault, file: &TableFile<'_>) -> Result<String, AllocError>
+    ensures { IfOk result (λ s. string_bytes s ≡ only_file_told fault.now (file_read file.now)) }
+{
+    match file_side(fault) {
+        Some(_) => table_line(alloc, fault, file, None),
+        None => Ok(String::new(alloc)),
+    }
+}
+
+// The lines for an error of the only file.
+fn explain_only_file(
+    alloc: Global,
+    fault: &Fault,
+    file: &TableFile<'_>,
+) -> Result<String, AllocError>
+    ensures { IfOk result (λ s. IsExplainedAlone fault.now (file_read file.now) (string_bytes s)) }
+{
+    let mut told = explain_in_file(alloc, fault, file)?;
+    let whole = only_file_lines(alloc, fault, file)?;
+    told.push_str(whole.as_str())?;
+    Ok(told)
+}
+
+// A file of these bytes, read so.
+fn table_file<'a>(
+    bytes: &'a [u8],
+    delimiter: Delimiter,
+    types: &'a [TypeEntry],
+    strict: Strictness,
+) -> TableFile<'a>
+    ensures bytes { result.bytes.now ≡ bytes.entry.now }
+    ensures delimiter { result.delimiter ≡ delimiter }
+    ensures types { result.types.now ≡ types.entry.now }
+    ensures strict { result.strict ≡ strict }
+{
+    TableFile {
+        bytes,
+        delimiter,
+        types,
+        strict,
+    }
+}
+
+/// The same for an error of the only file of a run, whose columns are read as texts. The lines don't
+/// say which file it is.
+///
+/// # Errors
+///
+/// It fails only when memory runs out.
+pub fn explain_alone(
+    alloc: Global,
+    fault: &Fault,
+    bytes: &[u8],
+    delimiter: Delimiter,
+    strict: Strictness,
+) -> Result<String, AllocError>
+    ensures { IfOk result (λ s. IsExplainedAlone fault.now (file_of_texts delimiter strict bytes.now) (string_bytes s)) }
+{
+    let types = with_texts(Vec::new(alloc))?;
+    let file = table_file(bytes, delimiter, types.as_slice(), strict);
+    explain_only_file(alloc, fault, &file)
 }

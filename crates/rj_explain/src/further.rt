@@ -210,7 +210,7 @@ fn column_of<'a>(
 {
     TypedColumn {
         text,
-        delimiter: inputs.delimiter(side),
+        delimiter: inputs.table(side).delimiter,
         number,
         kind,
         nulls: inputs.nulls(side),
@@ -228,10 +228,11 @@ fn lines_of_text<'a>(
 ) -> Result<String, AllocError>
     ensures { IfOk result (λ s. AreToldIn side row number inputs.now text.now (string_bytes s)) }
 {
-    let Some(header) = find_row(alloc, text, inputs.delimiter(side), 0)? else {
+    let file = inputs.table(side);
+    let Some(header) = find_row(alloc, text, file.delimiter, 0)? else {
         return Ok(String::new(alloc));
     };
-    match kind_at(alloc, inputs, side, &header, number)? {
+    match kind_at(alloc, &file, &header, number)? {
         Some(kind) => {
             let column = column_of(inputs, side, text, number, kind);
             lines_below(alloc, &column, row)
@@ -250,8 +251,9 @@ fn further_lines(
 ) -> Result<String, AllocError>
     ensures { IfOk result (λ s. AreFurtherTold side row number inputs.now (string_bytes s)) }
 {
-    let quoted = inputs.quoted_text(alloc, side)?;
-    let text = text_of(&quoted, inputs.file(side));
+    let file = inputs.table(side);
+    let quoted = file.quoted_text(alloc)?;
+    let text = text_of(&quoted, file.bytes);
     lines_of_text(alloc, inputs, side, text, row, number)
 }
 

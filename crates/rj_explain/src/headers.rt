@@ -7,17 +7,16 @@ ghost use Rattle.std.specs.Str.{str_eq_ignore_ascii_case};
 ghost use Rattle.rj_csv_io.specs.Pieces.{names_in};
 ghost use Rattle.rj_types.specs.Columns.{kind_of};
 ghost use Rattle.rj_types.specs.Lists.{is_place};
-ghost use Rattle.rj_explain.specs.Explained.{IsTypeCountTold, IsTypeNameTold, count_told, first_untyped, side_names};
+ghost use Rattle.rj_explain.specs.Explained.{IsTypeCountTold, IsTypeNameTold, count_told, file_read, first_untyped, header_names};
 ghost use Rattle.rj_explain.specs.Lines as lines;
 ghost use Rattle.rj_explain.specs.Lines.{repeated_at, repeated_told};
 ghost use Rattle.rj_explain.specs.Places.{at_column};
 
-use crate::inputs::Inputs;
+use crate::inputs::TableFile;
 use crate::names::before_name;
 use crate::row::field_at;
 use crate::shown::Shown;
 use rj_csv_io::Header;
-use rj_fault::Side;
 use rj_types::{Label, TypeEntry, types_under};
 use std::alloc::{AllocError, Global};
 
@@ -41,13 +40,12 @@ fn name_line(alloc: Global, name: Option<&[u8]>) -> Result<String, AllocError>
 /// It fails only when memory runs out.
 pub(crate) fn bad_name_lines(
     alloc: Global,
-    inputs: &Inputs<'_, '_>,
-    side: Side,
+    file: &TableFile<'_>,
     column: u64,
 ) -> Result<String, AllocError>
-    ensures { IfOk result (λ s. string_bytes s ≡ lines.name_line (at_column column (side_names side inputs.now))) }
+    ensures { IfOk result (λ s. string_bytes s ≡ lines.name_line (at_column column (header_names file.now.delimiter file.now.bytes.now))) }
 {
-    match inputs.header(alloc, side)? {
+    match file.header(alloc)? {
         Some(header) => name_line(alloc, field_at(alloc, &header, column)?),
         None => Ok(String::new(alloc)),
     }
@@ -93,13 +91,12 @@ fn lines_of_repeated(alloc: Global, header: &Header, column: u64) -> Result<Stri
 /// It fails only when memory runs out.
 pub(crate) fn repeated_name_lines(
     alloc: Global,
-    inputs: &Inputs<'_, '_>,
-    side: Side,
+    file: &TableFile<'_>,
     column: u64,
 ) -> Result<String, AllocError>
-    ensures { IfOk result (λ s. string_bytes s ≡ repeated_told (side_names side inputs.now) (at_column column (side_names side inputs.now))) }
+    ensures { IfOk result (λ s. string_bytes s ≡ repeated_told (header_names file.now.delimiter file.now.bytes.now) (at_column column (header_names file.now.delimiter file.now.bytes.now))) }
 {
-    match inputs.header(alloc, side)? {
+    match file.header(alloc)? {
         Some(header) => lines_of_repeated(alloc, &header, column),
         None => Ok(String::new(alloc)),
     }
@@ -192,18 +189,14 @@ fn lines_of_count(
 /// # Errors
 ///
 /// It fails only when memory runs out.
-pub(crate) fn type_count_lines(
-    alloc: Global,
-    inputs: &Inputs<'_, '_>,
-    side: Side,
-) -> Result<String, AllocError>
-    ensures { IfOk result (λ s. IsTypeCountTold side inputs.now (string_bytes s)) }
+pub(crate) fn type_count_lines(alloc: Global, file: &TableFile<'_>) -> Result<String, AllocError>
+    ensures { IfOk result (λ s. IsTypeCountTold (file_read file.now) (string_bytes s)) }
 {
-    let Some(header) = inputs.header(alloc, side)? else {
+    let Some(header) = file.header(alloc)? else {
         return Ok(String::new(alloc));
     };
     let names = header.names(alloc)?;
-    lines_of_count(alloc, inputs.types(side), names.as_slice())
+    lines_of_count(alloc, file.types, names.as_slice())
 }
 
 // The line with the number of names of a header, and the most that there may be.
@@ -218,14 +211,10 @@ fn columns_line(alloc: Global, names: usize) -> Result<String, AllocError>
 /// # Errors
 ///
 /// It fails only when memory runs out.
-pub(crate) fn too_many_lines(
-    alloc: Global,
-    inputs: &Inputs<'_, '_>,
-    side: Side,
-) -> Result<String, AllocError>
-    ensures { IfOk result (λ s. string_bytes s ≡ lines.columns_line (length (side_names side inputs.now))) }
+pub(crate) fn too_many_lines(alloc: Global, file: &TableFile<'_>) -> Result<String, AllocError>
+    ensures { IfOk result (λ s. string_bytes s ≡ lines.columns_line (length (header_names file.now.delimiter file.now.bytes.now))) }
 {
-    match inputs.header(alloc, side)? {
+    match file.header(alloc)? {
         Some(header) => columns_line(alloc, header.columns()),
         None => columns_line(alloc, 0),
     }
@@ -251,14 +240,10 @@ fn names_line(alloc: Global, names: &[&[u8]]) -> Result<String, AllocError>
 /// # Errors
 ///
 /// It fails only when memory runs out.
-pub(crate) fn type_name_lines(
-    alloc: Global,
-    inputs: &Inputs<'_, '_>,
-    side: Side,
-) -> Result<String, AllocError>
-    ensures { IfOk result (λ s. IsTypeNameTold side inputs.now (string_bytes s)) }
+pub(crate) fn type_name_lines(alloc: Global, file: &TableFile<'_>) -> Result<String, AllocError>
+    ensures { IfOk result (λ s. IsTypeNameTold (file_read file.now) (string_bytes s)) }
 {
-    let Some(header) = inputs.header(alloc, side)? else {
+    let Some(header) = file.header(alloc)? else {
         return Ok(String::new(alloc));
     };
     let names = header.names(alloc)?;

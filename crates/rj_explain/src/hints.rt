@@ -1,12 +1,12 @@
 //! What is said of a whole file that isn't CSV in UTF-8 with its delimiter.
 
-ghost use Rattle.std.specs.Prelude.{◌≡◌, IfOk, Some, map, not, string_bytes};
+ghost use Rattle.std.specs.Prelude.{◌≡◌, IfOk, None, Some, map, not, string_bytes};
 ghost use Rattle.std.specs.List.{list_any};
-ghost use Rattle.rj_explain.specs.Explained.{delimiter_of, file_of, file_told, file_told_of, separators_told};
+ghost use Rattle.rj_explain.specs.Explained.{delimiter_of, file_read, header_names, separators_told, table_told};
 ghost use Rattle.rj_explain.specs.Hints as hints;
 ghost use Rattle.rj_explain.specs.Shown as spec;
 
-use crate::inputs::Inputs;
+use crate::inputs::{Inputs, TableFile, header_of};
 use crate::shown::text_in;
 use rj_columns::Table;
 use rj_fault::{Fault, Side};
@@ -164,71 +164,95 @@ fn separator_of_table(delimiter: u8, table: &Table) -> Option<Separator>
     separator_in(delimiter, table.name(0).as_bytes())
 }
 
-// What is said of a side's file that a sign separates.
+// What stands before the word for a file: which side's it is, unless it is the only one.
+fn before_file(label: Option<Side>) -> &'static str
+    ensures { result.now ≡ hints.before_file label }
+{
+    match label {
+        Some(Side::Left) => "left ",
+        Some(Side::Right) => "right ",
+        None => "",
+    }
+}
+
+// The same before the name of an option.
+fn before_option(label: Option<Side>) -> &'static str
+    ensures { result.now ≡ hints.before_option label }
+{
+    match label {
+        Some(Side::Left) => "left-",
+        Some(Side::Right) => "right-",
+        None => "",
+    }
+}
+
+// What is said of a file that a sign separates.
 fn separator_words(
     alloc: Global,
-    side: Side,
+    label: Option<Side>,
     separator: Option<Separator>,
 ) -> Result<String, AllocError>
-    ensures { IfOk result (λ s. string_bytes s ≡ hints.separator_words side separator) }
+    ensures { IfOk result (λ s. string_bytes s ≡ hints.separator_words label separator) }
 {
     match separator {
         Some(separator) => {
             let (signs, word) = (separator.plural(), separator.shell_word());
+            let before = before_option(label);
             format!(in alloc;
-                "seems to be separated by {signs}: is --{side}-delimiter {word} meant?"
+                "seems to be separated by {signs}: is --{before}delimiter {word} meant?"
             )
         }
         None => Ok(String::new(alloc)),
     }
 }
 
-// What is said of a side's file with these names in its header.
+// What is said of a file with these names in its header.
 fn file_words(
     alloc: Global,
     fault: &Fault,
-    inputs: &Inputs<'_, '_>,
-    side: Side,
+    file: &TableFile<'_>,
+    label: Option<Side>,
     names: &[&[u8]],
 ) -> Result<String, AllocError>
     ensures { IfOk result (λ s. string_bytes s
-        ≡ hints.file_words side (delimiter_of side inputs.now) fault.now (file_of side inputs.now) (map (λ n. n.now) names.now)) }
+        ≡ hints.file_words label file.now.delimiter fault.now file.now.bytes.now (map (λ n. n.now) names.now)) }
 {
-    let words = foreign_words(fault, inputs.file(side), names);
+    let words = foreign_words(fault, file.bytes, names);
     if !words.is_empty() {
         return String::from_str(alloc, words);
     }
-    let delimiter = inputs.delimiter(side).byte();
-    separator_words(alloc, side, separator_of(delimiter, names))
+    let delimiter = file.delimiter.byte();
+    separator_words(alloc, label, separator_of(delimiter, names))
 }
 
-// A line for what is said of a side's file, if anything is.
-fn file_line(alloc: Global, side: Side, words: &str) -> Result<String, AllocError>
-    ensures { IfOk result (λ s. string_bytes s ≡ hints.file_line side words.now) }
+// A line for what is said of a file, if anything is.
+fn file_line(alloc: Global, label: Option<Side>, words: &str) -> Result<String, AllocError>
+    ensures { IfOk result (λ s. string_bytes s ≡ hints.file_line label words.now) }
 {
     if words.is_empty() {
         return Ok(String::new(alloc));
     }
-    format!(in alloc; "  the {side} file {words}\n")
+    let before = before_file(label);
+    format!(in alloc; "  the {before}file {words}\n")
 }
 
-// The line for a side's file with these names in its header.
+// The line for a file with these names in its header.
 fn line_of_file(
     alloc: Global,
     fault: &Fault,
-    inputs: &Inputs<'_, '_>,
-    side: Side,
+    file: &TableFile<'_>,
+    label: Option<Side>,
     names: &[&[u8]],
 ) -> Result<String, AllocError>
-    ensures { IfOk result (λ s. string_bytes s ≡ hints.file_line side
-        (hints.file_words side (delimiter_of side inputs.now) fault.now (file_of side inputs.now) (map (λ n. n.now) names.now))) }
+    ensures { IfOk result (λ s. string_bytes s ≡ hints.file_line label
+        (hints.file_words label file.now.delimiter fault.now file.now.bytes.now (map (λ n. n.now) names.now))) }
 {
-    let words = file_words(alloc, fault, inputs, side, names)?;
-    file_line(alloc, side, words.as_str())
+    let words = file_words(alloc, fault, file, label, names)?;
+    file_line(alloc, label, words.as_str())
 }
 
-// The side in whose file an error is.
-fn file_side(fault: &Fault) -> Option<Side>
+/// The side in whose file an error is, if more is to be said of the whole file.
+pub(crate) fn file_side(fault: &Fault) -> Option<Side>
     ensures { result ≡ hints.file_side fault.now }
 {
     match *fault {
@@ -249,56 +273,57 @@ fn file_side(fault: &Fault) -> Option<Side>
     }
 }
 
-// The line for a side's file.
-fn side_line(
-    alloc: Global,
-    fault: &Fault,
-    inputs: &Inputs<'_, '_>,
-    side: Side,
-) -> Result<String, AllocError>
-    ensures { IfOk result (λ s. string_bytes s ≡ file_told_of fault.now inputs.now (Some side)) }
-{
-    let Some(header) = inputs.header(alloc, side)? else {
-        return line_of_file(alloc, fault, inputs, side, &[]);
-    };
-    let names = header.names(alloc)?;
-    line_of_file(alloc, fault, inputs, side, names.as_slice())
-}
-
-/// The line for the file in which an error is, if the file isn't CSV in UTF-8 with its delimiter.
+/// The line for the file in which an error is, by the file's label, if it isn't CSV in UTF-8 with
+/// its delimiter.
 ///
 /// # Errors
 ///
 /// It fails only when memory runs out.
-pub(crate) fn file_lines(
+pub(crate) fn table_line(
     alloc: Global,
     fault: &Fault,
-    inputs: &Inputs<'_, '_>,
+    file: &TableFile<'_>,
+    label: Option<Side>,
 ) -> Result<String, AllocError>
-    ensures { IfOk result (λ s. string_bytes s ≡ file_told fault.now inputs.now) }
+    ensures { IfOk result (λ s. string_bytes s ≡ table_told label fault.now (file_read file.now)) }
 {
-    match file_side(fault) {
-        Some(side) => side_line(alloc, fault, inputs, side),
-        None => Ok(String::new(alloc)),
-    }
+    let Some(header) = file.header(alloc)? else {
+        return line_of_file(alloc, fault, file, label, &[]);
+    };
+    let names = header.names(alloc)?;
+    line_of_file(alloc, fault, file, label, names.as_slice())
 }
 
-/// The line for the sign that separates the fields of a side's file in place of its delimiter, by
-/// the names of its header; none if there is no such sign.
+// The sign that separates the fields of a text in place of its delimiter, by its header.
+fn separator_of_text(
+    alloc: Global,
+    bytes: &[u8],
+    delimiter: Delimiter,
+) -> Result<Option<Separator>, AllocError>
+    ensures { IfOk result (λ o. o ≡ hints.separator_of delimiter (header_names delimiter bytes.now)) }
+{
+    let Some(header) = header_of(alloc, bytes, delimiter)? else {
+        return Ok(None);
+    };
+    let names = header.names(alloc)?;
+    Ok(separator_of(delimiter.byte(), names.as_slice()))
+}
+
+/// The line for the sign that separates the fields of the only file in place of its delimiter, by
+/// the names of its header; it is empty if there is no such sign.
 ///
 /// # Errors
 ///
 /// It fails only when memory runs out.
 pub fn explain_separator(
     alloc: Global,
-    side: Side,
+    bytes: &[u8],
     delimiter: Delimiter,
-    names: &[&[u8]],
 ) -> Result<String, AllocError>
-    ensures { IfOk result (λ s. string_bytes s ≡ hints.separator_line side delimiter (map (λ n. n.now) names.now)) }
+    ensures { IfOk result (λ s. string_bytes s ≡ hints.separator_line None delimiter (header_names delimiter bytes.now)) }
 {
-    let words = separator_words(alloc, side, separator_of(delimiter.byte(), names))?;
-    file_line(alloc, side, words.as_str())
+    let words = separator_words(alloc, None, separator_of_text(alloc, bytes, delimiter)?)?;
+    file_line(alloc, None, words.as_str())
 }
 
 // The line for the sign that separates the fields of a side's file, by its table.
@@ -308,11 +333,11 @@ fn separator_line(
     side: Side,
     table: &Table,
 ) -> Result<String, AllocError>
-    ensures { IfOk result (λ s. string_bytes s ≡ hints.separator_line side (delimiter_of side inputs.now) table.now.names) }
+    ensures { IfOk result (λ s. string_bytes s ≡ hints.separator_line (Some side) (delimiter_of side inputs.now) table.now.names) }
 {
-    let delimiter = inputs.delimiter(side).byte();
-    let words = separator_words(alloc, side, separator_of_table(delimiter, table))?;
-    file_line(alloc, side, words.as_str())
+    let delimiter = inputs.table(side).delimiter.byte();
+    let words = separator_words(alloc, Some(side), separator_of_table(delimiter, table))?;
+    file_line(alloc, Some(side), words.as_str())
 }
 
 /// The lines for the signs that separate the fields of the two files, by their tables.

@@ -6,7 +6,7 @@ ghost use Rattle.rj_csv_io.specs.Pieces.{names_in};
 ghost use Rattle.rj_csv_io.specs.Typed.{null_texts};
 ghost use Rattle.rj_types.specs.Columns as columns;
 ghost use Rattle.rj_explain.specs.Explained as explained;
-ghost use Rattle.rj_explain.specs.Explained.{IsQuotedText, IsSideText, delimiter_of, file_of, names_of, side_names, text_in, types_of};
+ghost use Rattle.rj_explain.specs.Explained.{IsQuotedText, IsTextOf, delimiter_of, file_of, file_read, header_names, names_of, text_in, types_of};
 ghost use Rattle.rj_explain.specs.Further.{nulls_of};
 
 use rj_columns::ColumnType;
@@ -16,6 +16,86 @@ use rj_line::{Request, Strictness};
 use rj_strict::{Delimiter, Header, above_fault, check, quote_empty_lines};
 use rj_types::{TypeEntry, types_under};
 use std::alloc::{AllocError, Global};
+
+/// A file of a table, and how it is read.
+#[derive(Clone, Copy)]
+pub(crate) struct TableFile<'a> {
+    /// Its bytes.
+    pub(crate) bytes: &'a [u8],
+    /// Its delimiter.
+    pub(crate) delimiter: Delimiter,
+    /// What is known of the types of its columns.
+    pub(crate) types: &'a [TypeEntry],
+    /// How strictly it is read.
+    pub(crate) strict: Strictness,
+}
+
+/// The first record of a text, which is its header, if it has one.
+///
+/// # Errors
+///
+/// It fails only when memory runs out.
+pub(crate) fn header_of(
+    alloc: Global,
+    bytes: &[u8],
+    delimiter: Delimiter,
+) -> Result<Option<Names>, AllocError>
+    ensures { IfOk result (λ o. names_of o ≡ header_names delimiter bytes.now) }
+{
+    Names::of(alloc, without_bom(bytes), delimiter)
+}
+
+impl TableFile<'_> {
+    /// Whether its last line needs its line end.
+    pub(crate) fn is_full(&self) -> bool
+        ensures { result ≡ explained.is_full self.now.strict }
+    {
+        match self.strict {
+            Strictness::Full => true,
+            Strictness::Off | Strictness::On => false,
+        }
+    }
+
+    /// Its header, if it has one.
+    ///
+    /// # Errors
+    ///
+    /// It fails only when memory runs out.
+    pub(crate) fn header(&self, alloc: Global) -> Result<Option<Names>, AllocError>
+        ensures { IfOk result (λ o. names_of o ≡ header_names self.now.delimiter self.now.bytes.now) }
+    {
+        header_of(alloc, self.bytes, self.delimiter)
+    }
+
+    /// The types of its columns under this header.
+    ///
+    /// # Errors
+    ///
+    /// It fails only where memory is refused.
+    pub(crate) fn kinds(&self, alloc: Global, header: &Names) -> Result<Vec<ColumnType>, AllocError>
+        ensures { IfOk result (λ v. v.items ≡ columns.types_under self.now.types.now (names_in header.now)) }
+    {
+        let names = header.names(alloc)?;
+        types_under(alloc, self.types, names.as_slice())
+    }
+
+    /// The text of which its records are read, where that isn't its own: read strictly, an empty
+    /// line is a record.
+    ///
+    /// # Errors
+    ///
+    /// It fails only when memory runs out.
+    pub(crate) fn quoted_text(&self, alloc: Global) -> Result<Option<Vec<u8>>, AllocError>
+        ensures { IfOk result (λ o. IsTextOf (file_read self.now) (text_in o self.now.bytes.now)) }
+    {
+        match self.strict {
+            Strictness::Off => Ok(None),
+            Strictness::On | Strictness::Full => {
+                Ok(Some(quoted_lines(alloc, self.bytes, self.delimiter)?))
+            }
+        }
+    }
+}
 
 /// What a run had read when its error was found.
 #[derive(Clone, Copy)]
@@ -29,33 +109,27 @@ pub struct Inputs<'a, 'r> {
 }
 
 impl<'a, 'r> Inputs<'a, 'r> {
-    /// The bytes of a side's file.
-    pub(crate) fn file(&self, side: Side) -> &'a [u8]
-        ensures { result.now ≡ file_of side self.now }
+    /// A side's file.
+    pub(crate) fn table(&self, side: Side) -> TableFile<'a>
+        ensures bytes { result.bytes.now ≡ file_of side self.now }
+        ensures delimiter { result.delimiter ≡ delimiter_of side self.now }
+        ensures types { result.types.now ≡ types_of side self.now }
+        ensures strict { result.strict ≡ self.now.request.now.strict }
     {
+        let request = self.request;
         match side {
-            Side::Left => self.left,
-            Side::Right => self.right,
-        }
-    }
-
-    /// The delimiter of a side's file.
-    pub(crate) fn delimiter(&self, side: Side) -> Delimiter
-        ensures { result ≡ delimiter_of side self.now }
-    {
-        match side {
-            Side::Left => self.request.left_delimiter,
-            Side::Right => self.request.right_delimiter,
-        }
-    }
-
-    /// What is known of the types of a side's columns.
-    pub(crate) fn types(&self, side: Side) -> &'a [TypeEntry]
-        ensures { result.now ≡ types_of side self.now }
-    {
-        match side {
-            Side::Left => self.request.left_types.as_slice(),
-            Side::Right => self.request.right_types.as_slice(),
+            Side::Left => TableFile {
+                bytes: self.left,
+                delimiter: request.left_delimiter,
+                types: request.left_types.as_slice(),
+                strict: request.strict,
+            },
+            Side::Right => TableFile {
+                bytes: self.right,
+                delimiter: request.right_delimiter,
+                types: request.right_types.as_slice(),
+                strict: request.strict,
+            },
         }
     }
 
@@ -66,66 +140,6 @@ impl<'a, 'r> Inputs<'a, 'r> {
         match side {
             Side::Left => self.request.left_nulls.as_slice(),
             Side::Right => self.request.right_nulls.as_slice(),
-        }
-    }
-
-    /// Whether the last line of a file needs its line end.
-    pub(crate) fn is_full(&self) -> bool
-        ensures { result ≡ explained.is_full self.now.request.now.strict }
-    {
-        match self.request.strict {
-            Strictness::Full => true,
-            Strictness::Off | Strictness::On => false,
-        }
-    }
-
-    /// The header of a side's file, if it has one.
-    ///
-    /// # Errors
-    ///
-    /// It fails only when memory runs out.
-    pub(crate) fn header(&self, alloc: Global, side: Side) -> Result<Option<Names>, AllocError>
-        ensures { IfOk result (λ o. names_of o ≡ side_names side self.now) }
-    {
-        Names::of(alloc, without_bom(self.file(side)), self.delimiter(side))
-    }
-
-    /// The types of a side's columns under this header.
-    ///
-    /// # Errors
-    ///
-    /// It fails only where memory is refused.
-    pub(crate) fn kinds(
-        &self,
-        alloc: Global,
-        side: Side,
-        header: &Names,
-    ) -> Result<Vec<ColumnType>, AllocError>
-        ensures { IfOk result (λ v. v.items ≡ columns.types_under (types_of side self.now) (names_in header.now)) }
-    {
-        let names = header.names(alloc)?;
-        types_under(alloc, self.types(side), names.as_slice())
-    }
-
-    /// The text of a side as its records are read, where that isn't the file's own: read strictly,
-    /// an empty line is a record.
-    ///
-    /// # Errors
-    ///
-    /// It fails only when memory runs out.
-    pub(crate) fn quoted_text(
-        &self,
-        alloc: Global,
-        side: Side,
-    ) -> Result<Option<Vec<u8>>, AllocError>
-        ensures { IfOk result (λ o. IsSideText side self.now (text_in o (file_of side self.now))) }
-    {
-        match self.request.strict {
-            Strictness::Off => Ok(None),
-            Strictness::On | Strictness::Full => {
-                let file = self.file(side);
-                Ok(Some(quoted_lines(alloc, file, self.delimiter(side))?))
-            }
         }
     }
 }
@@ -144,7 +158,7 @@ fn quoted_lines(alloc: Global, text: &[u8], delimiter: Delimiter) -> Result<Vec<
     }
 }
 
-/// The text of a side's records: the one with its empty lines quoted, if there is one, or the
+/// The text of a file's records: the one with its empty lines quoted, if there is one, or the
 /// file's own.
 pub(crate) fn text_of<'t>(quoted: &'t Option<Vec<u8>>, file: &'t [u8]) -> &'t [u8]
     ensures { result.now ≡ text_in quoted.now file.now }

@@ -304,7 +304,7 @@ pub fn explain_row(
 ) -> Result<String, AllocError>
     ensures { IfOk result (λ s. IsPairedTold side row pairs inputs.now (string_bytes s)) }
 {
-    match find_both(alloc, inputs, side, row)? {
+    match find_both(alloc, &inputs.table(side), row)? {
         Some(found) => lines_of_paired(alloc, inputs, &found, side, row, pairs),
         None => Ok(String::new(alloc)),
     }

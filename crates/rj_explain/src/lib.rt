@@ -30,7 +30,7 @@ mod syntax;
 mod unknown;
 mod words;
 
-pub use explanation::explain;
+pub use explanation::{explain, explain_alone};
 pub use further::explain_further;
 pub use hints::explain_separator;
 pub use inputs::Inputs;

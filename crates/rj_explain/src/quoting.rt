@@ -105,7 +105,7 @@ fn line_of_side(
     byte: u64,
     side: Side,
 ) -> Result<Option<String>, AllocError> {
-    let Some(header) = inputs.header(alloc, side)? else {
+    let Some(header) = inputs.table(side).header(alloc)? else {
         return Ok(None);
     };
     let names = header.names(alloc)?;

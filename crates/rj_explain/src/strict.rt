@@ -8,16 +8,15 @@ ghost use Rattle.rj_strict.specs.Grammar.{Derives, File, Line, lines_text};
 ghost use Rattle.rj_strict.specs.Reading.{body_of};
 ghost use Rattle.rj_strict.specs.declared.fault.StrictFault.{StrictFault};
 ghost use Rattle.rj_strict.specs.declared.header.Header.TheVariants.{First};
-ghost use Rattle.rj_explain.specs.Explained.{IsGrammarTold, IsStrictTold, column_name, names_of};
+ghost use Rattle.rj_explain.specs.Explained.{IsGrammarTold, IsStrictTold, column_name, file_read, names_of};
 ghost use Rattle.rj_explain.specs.Lines as lines;
 ghost use Rattle.rj_explain.specs.Strict.{IsFaultLine};
 
-use crate::inputs::Inputs;
+use crate::inputs::TableFile;
 use crate::places::line_feeds;
 use crate::row::field_at;
 use crate::shown::Shown;
 use rj_csv_io::{Header as Names, without_bom};
-use rj_fault::Side;
 use rj_strict::{Delimiter, Header, above_fault, check};
 use std::alloc::{AllocError, Global};
 
@@ -90,7 +89,7 @@ fn lines_of_place(
     }
 }
 
-/// The lines for the place where a side's file stops being of the grammar, and the reason. The
+/// The lines for the place where a file stops being of the grammar, and the reason. The
 /// column counts from 1; 0 means no column.
 ///
 /// # Errors
@@ -98,22 +97,14 @@ fn lines_of_place(
 /// It fails only when memory runs out.
 pub(crate) fn grammar_lines(
     alloc: Global,
-    inputs: &Inputs<'_, '_>,
-    side: Side,
+    file: &TableFile<'_>,
     row: u64,
     column: u64,
     why: &str,
 ) -> Result<String, AllocError>
-    ensures { IfOk result (λ s. IsStrictTold side row column why.now inputs.now (string_bytes s)) }
+    ensures { IfOk result (λ s. IsStrictTold (file_read file.now) row column why.now (string_bytes s)) }
 {
-    let header = inputs.header(alloc, side)?;
+    let header = file.header(alloc)?;
     let name = name_in_row(alloc, &header, row, column)?;
-    lines_of_place(
-        alloc,
-        inputs.file(side),
-        inputs.delimiter(side),
-        inputs.is_full(),
-        name,
-        why,
-    )
+    lines_of_place(alloc, file.bytes, file.delimiter, file.is_full(), name, why)
 }

@@ -1,3 +1,4 @@
+pub mod Alone
 pub mod Asking
 pub mod Drafts
 pub mod Given

@@ -1,23 +1,26 @@
 //! From a stream of bytes to the types that its cells suggest.
 
-ghost use Rattle.std.specs.Prelude.{◌≡◌, ◌≢◌, ◌⊎◌, ℕ, List, IfOk, IfErr, None, Ok, OnOk, false};
+ghost use Rattle.std.specs.Prelude.{◌≡◌, ◌≢◌, ◌⊎◌, ℕ, List, IfOk, IfErr, None, Ok, OnOk, false, string_bytes, true};
 ghost use Rattle.rj_csv_io.specs.Typed.{null_texts};
+ghost use Rattle.rj_explain.specs.Explained.{header_names};
+ghost use Rattle.rj_explain.specs.Hints.{separator_line};
+ghost use Rattle.rj_files.specs.Alone.{AreLinesAlone};
 ghost use Rattle.rj_files.specs.Streams.{AreBytesOf, IsStrictlyUnsuggested, IsSuggestedBy, IsUnsuggested, IsUnsuggestedBy, WritesSuggested, fault_of_refused};
 ghost use Rattle.rj_suggest.specs.Strict.{IsStrictListing};
 
-use crate::alone::{Suggesting, explained_alone, separator_alone, unread_alone};
+use crate::alone::{Suggesting, explained_alone, unread_alone};
 use crate::explained::ExplainedFault;
 use crate::progress::Progress;
 use crate::reading::{Stream, read_stream};
 use rj_command::fault_of_text;
 use rj_csv_io::{CountedWriter, InputFormat, Output};
-use rj_explain::Shown;
+use rj_explain::{Shown, explain_separator};
 use rj_fault::{Fault, Side};
 use rj_line::Strictness;
 use rj_suggest::{
     ListedColumns, Misfit, StrictlyRefused, Suggestion, suggest_listed, suggest_listed_strictly,
 };
-use std::alloc::Global;
+use std::alloc::{AllocError, Global};
 use std::io::Write;
 use std::time::Clock;
 
@@ -67,11 +70,11 @@ fn suggested_by(
 }
 
 // What the cells of a file suggest, and the line for the sign that separates its fields in place of
-// its delimiter, if there is one.
+// its delimiter, or that memory ran out for it.
 #[derive(Drop)]
 struct Found {
     suggestion: Suggestion,
-    separator: Option<String>,
+    separator: Result<String, AllocError>,
 }
 
 // What the cells of a stream suggest of the columns that are asked for.
@@ -82,9 +85,11 @@ fn suggested<R: AllocGlobal + Eprint + Clock, S: Stream>(
     asked: Suggesting,
 ) -> Result<Found, ExplainedFault>
     ensures suggestion { IfOk result (λ found. (bytes : List ℕ) × AreBytesOf (S.tells stream.now) bytes
-        × IsSuggestedBy asked.listed asked.strict format.now.delimiter bytes (null_texts format.now.nulls.now) found.suggestion) }
+        × IsSuggestedBy asked.listed asked.strict format.now.delimiter bytes (null_texts format.now.nulls.now) found.suggestion
+        × IfOk found.separator (λ s. string_bytes s ≡ separator_line None format.now.delimiter (header_names format.now.delimiter bytes))) }
     ensures fault { IfErr result (λ e. IsUnsuggested asked.strict format.now.delimiter (null_texts format.now.nulls.now) (S.tells stream.now) e.fault) }
     ensures unasked { asked.explain ≡ false → IfErr result (λ e. e.lines ≡ Ok None) }
+    ensures asked { asked.explain ≡ true → IfErr result (λ e. AreLinesAlone asked.strict format.now.delimiter (S.tells stream.now) e.fault e.lines) }
 {
     let alloc = rt.alloc();
     let bytes = match read_stream(alloc, stream, Side::Left, &Progress::hidden(rt)) {
@@ -95,9 +100,9 @@ fn suggested<R: AllocGlobal + Eprint + Clock, S: Stream>(
     match suggested_by(alloc, bytes, format, asked.strict, asked.listed) {
         Ok(suggestion) => Ok(Found {
             suggestion,
-            separator: separator_alone(alloc, bytes, format.delimiter),
+            separator: explain_separator(alloc, bytes, format.delimiter),
         }),
-        Err(fault) => Err(explained_alone(alloc, bytes, format, asked, fault)),
+        Err(fault) => Err(explained_alone(alloc, bytes, format.delimiter, asked, fault)),
     }
 }
 
@@ -140,7 +145,7 @@ fn tell_beside<R: Eprint>(rt: &R, found: &Found, listed: ListedColumns) {
     if matches!(listed, ListedColumns::Keys) && found.suggestion.list.is_empty() {
         let _ = eprintln!(rt; "radixjoin: no column is a key: each has a NULL or a repeated cell");
     }
-    if let Some(line) = &found.separator {
+    if let Ok(line) = &found.separator {
         let _ = eprint!(rt; "{line}");
     }
 }
@@ -173,6 +178,8 @@ where
     ensures fault { IfErr result.0 (λ e. e.fault ≢ Fault.WriteDevice → IsUnsuggested asked.strict format.now.delimiter (null_texts format.now.nulls.now) (S.tells stream.now) e.fault) }
     ensures unchanged { IfErr result.0 (λ e. e.fault ≢ Fault.WriteDevice → result.1 ≡ writer) }
     ensures unasked { asked.explain ≡ false → IfErr result.0 (λ e. e.lines ≡ Ok None) }
+    ensures asked { asked.explain ≡ true → IfErr result.0 (λ e. e.fault ≢ Fault.WriteDevice
+        → AreLinesAlone asked.strict format.now.delimiter (S.tells stream.now) e.fault e.lines) }
 {
     let found = match suggested(rt, stream, format, asked) {
         Ok(found) => found,

@@ -1,6 +1,5 @@
 use Rattle.std.proofs.lemmas.Result.{IfOk-weaker}
-use Rattle.std.proofs.Common.{ap, sym, subst, List, ℕ}
-use Rattle.rj_explain.specs.Lines.{clause_line}
+use Rattle.std.proofs.Common.{sym, subst, List, ℕ}
 use Rattle.rj_explain.specs.Unknown.{IsReasonTold, both_names}
 use Rattle.rj_explain.proofs.clause.refused_line.Goals as goal
 

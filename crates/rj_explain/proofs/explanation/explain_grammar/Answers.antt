@@ -5,7 +5,7 @@ returns-in-OpenQuote c = rw c.in-OpenQuote.is c.grammar_lines.ensures
 
 pub returns-in-AfterQuote : goal.returns-in-AfterQuote
 returns-in-AfterQuote c =
-    let told = rw (c.behind_quote-why.ensures, c.delimiter.ensures) at c.grammar_lines-in-AfterQuote.ensures in
+    let told = rw c.behind_quote-why.ensures at c.grammar_lines-in-AfterQuote.ensures in
     rw c.in-AfterQuote.is told
 
 pub returns-in-BareQuote : goal.returns-in-BareQuote

@@ -1,5 +1,5 @@
-use Rattle.std.proofs.Common.{◌≡◌, map, take}
-use Rattle.std.specs.Prelude.{slice_get, string_bytes}
+use Rattle.std.proofs.Common.{◌≡◌, take}
+use Rattle.std.specs.Prelude.{string_bytes}
 use Rattle.rj_csv_io.specs.Pieces.{names_in}
 use Rattle.rj_explain.specs.Lines.{key_text}
 use Rattle.rj_explain.proofs.joined.key_text_of.Given as goal

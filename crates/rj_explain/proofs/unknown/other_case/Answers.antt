@@ -1,6 +1,6 @@
 use Rattle.std.proofs.Common.{◌≡◌, ◌∙◌, List, ℕ, false, rules, true}
 use Rattle.std.specs.Str.{str_eq_ignore_ascii_case}
-use Rattle.rj_explain.proofs.LookFacts.{find-end, find-here, find-more}
+use Rattle.rj_explain.proofs.LookFacts.{find-here, find-more}
 use Rattle.rj_explain.proofs.unknown.other_case.Goals as goal
 
 pub returns-then-eq_ignore_ascii_case : goal.returns-then-eq_ignore_ascii_case
