@@ -2,6 +2,7 @@ pub mod CutFacts
 pub mod ExplainFacts
 pub mod HeadFacts
 pub mod LineFacts
+pub mod MemoryFacts
 pub mod OptionFacts
 pub mod OwnFacts
 pub mod PlanFacts

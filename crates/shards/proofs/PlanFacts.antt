@@ -1,17 +1,20 @@
 -- What a side's file has, by the operand that a line has for it.
-use Rattle.std.proofs.Common.{◌≡◌, ◌≢◌, ◌∙◌, ◌&&◌, Bool, Bor, List, Option, Result, Ok, Err, inl, inr, ap, ap₂, subst, sym, ◌⊎◌, true}
+use Rattle.std.proofs.Common.{◌≡◌, ◌≢◌, ◌∙◌, ◌&&◌, Bool, Bor, List, [], Option, Result, Ok, Err, inl, inr, ap, ap₂, subst, sym, ◌⊎◌, true, false}
 use Rattle.std.specs.Prelude.{IfErr, IfOk, MatchResult, min, ◌^◌}
+use Rattle.std.proofs.lemmas.Bool.{and_parts, false≢true}
 use Rattle.clap.specs.Words.{Text}
 use Rattle.rj_columns.specs.Tables.{TableValue}
-use Rattle.rj_csv_io.specs.Tables.{are_null_texts}
+use Rattle.rj_csv_io.specs.Tables.{are_null_texts, is_null_text}
 use Rattle.rj_csv_io.specs.Typed.{null_texts}
+use Rattle.rj_divide.specs.Divisions.{written_null}
+use Rattle.rj_divide.proofs.NullFacts.{written_lawful}
 use Rattle.rj_fault.specs.declared.fault.Fault.{Fault}
 use Rattle.rj_fault.specs.declared.fault.Fault.TheVariants as fault
 use Rattle.rj_fault.specs.declared.fault.Side.{Side}
 use Rattle.shards.specs.Heads.{HasHead, HasHeadFault}
 use Rattle.shards.specs.Lines.{operand_of}
-use Rattle.shards.specs.Plans.{HasSideHead, HasSideHeadFault, IsHeaderFault, IsOtherFailure, IsRangeFailure, IsRangeOf, of_keys, of_rows, has_lawful_nulls, header_table, is_after_rows, other_side}
-use Rattle.shards.specs.Ranges.{AreAllRows, IsOfRows, IsOfWriting, range_file}
+use Rattle.shards.specs.Plans.{HasSideHead, HasSideHeadFault, IsHeaderFault, IsOtherFailure, IsRangeFailure, IsRangeOf, IsToldAfter, of_keys, of_rows, has_lawful_nulls, header_table, other_side}
+use Rattle.shards.specs.Ranges.{IsOfReading, range_file}
 use Rattle.shards.specs.declared.dividing.Range.{Range}
 use Rattle.shards.specs.declared.failure.Failure.{Failure}
 use Rattle.shards.specs.declared.head.Head.{Head}
@@ -52,14 +55,22 @@ lawful-nulls l r nulls others o p s is first second own other side =
     second ∙ (ap (λ (x : Operand). x.nulls.items) other ∙ ap (λ u. (operand_of l u).nulls.items) side) in
     sym (is ∙ ap₂ (λ (x y : List (Bor Text)). are_null_texts (null_texts x) && are_null_texts (null_texts y)) mine theirs)
 
+-- the text that is written for NULL is a lawful one
+pub written-null : (l : Line) (nulls : List (Bor Text)) (o : Operand) → has_lawful_nulls l ≡ true → o ≡ operand_of l l.side → nulls ≡ o.nulls.items
+    → is_null_text (written_null (null_texts nulls)) ≡ true
+written-null l nulls o lawful own are =
+    let same : nulls ≡ (operand_of l l.side).nulls.items = are ∙ ap (λ (x : Operand). x.nulls.items) own in
+    let mine = (and_parts (are_null_texts (null_texts (operand_of l l.side).nulls.items)) (are_null_texts (null_texts (operand_of l (other_side l.side)).nulls.items)) lawful).0 in
+    written_lawful (null_texts nulls) (ap (λ (x : List (Bor Text)). are_null_texts (null_texts x)) same ∙ mine)
+
 -- a range has what the operand of its side has
 pub range-is : (holds : Text → Option Text) (l : Line) (bounds : Bounds) (o : Operand) (range : Range) → o ≡ operand_of l l.side → range.line.now ≡ l
-    → HasHead l.strict o.delimiter (holds o.file.now) range.head.now → header_table range.head.now o ≡ Ok range.own.now → range.types.now ≡ range.own.now.types
+    → HasSideHead holds l l.side range.head.now → header_table range.head.now (operand_of l l.side) ≡ Ok range.own.now → range.types.now ≡ range.own.now.types
     → range.nulls.now ≡ o.nulls.items → range.delimiter ≡ o.delimiter → range.from ≡ min bounds.from (2 ^ 62) → range.to ≡ bounds.to → IsRangeOf holds l bounds range
 range-is holds l bounds o range own line head table types nulls delimiter from to = record {
   line = line;
-  head = subst (λ (p : Operand). HasHead l.strict p.delimiter (holds p.file.now) range.head.now) own head;
-  own = subst (λ (p : Operand). header_table range.head.now p ≡ Ok range.own.now) own table;
+  head = head;
+  own = table;
   types = types;
   nulls = nulls ∙ ap (λ (p : Operand). p.nulls.items) own;
   delimiter = delimiter ∙ ap (λ (p : Operand). p.delimiter) own;
@@ -67,20 +78,16 @@ range-is holds l bounds o range own line head table types nulls delimiter from t
   to = to;
 }
 
--- what two facts of a value say together
-pub ok-both : {X E : Type 0} (r : Result X E) (P Q R : X → Type 0) → ((x : X) → P x → Q x → R x) → IfOk r P → IfOk r Q → IfOk r R
-ok-both (Ok x) P Q R both p q = both x p q
-ok-both (Err e) P Q R both p q = tt
-
 -- the failure of a range whose rows were looked at
-pub looked : (holds : Text → Option Text) (l : Line) (bounds : Bounds) (range : Range) (found e : Failure) → has_lawful_nulls l ≡ true → IsRangeOf holds l bounds range
-    → IsOtherFailure holds l range.own.now found
-    → ((e ≡ found) × (is_after_rows found ≡ true → AreAllRows (range_file holds range) range)) ⊎ (IsOfRows (λ _. 0) (range_file holds range) range 1 e ⊎ IsOfWriting e) → IsRangeFailure holds l bounds e
-looked holds l bounds range found e lawful is other (inl rows) =
-    subst (IsRangeFailure holds l bounds) (sym rows.0) (of_keys range found lawful is other rows.1)
-looked holds l bounds range found e lawful is other (inr why) = of_rows range e lawful is why
+pub looked : (holds : Text → Option Text) (tells : Bool) (l : Line) (bounds : Bounds) (range : Range) (found e : Failure) (told : List (Option Text)) (old new : Option Text)
+    → has_lawful_nulls l ≡ true → IsRangeOf holds l bounds range → IsOtherFailure holds l range.own.now found
+    → ((e ≡ found) × IsToldAfter (range_file holds range) range old new found) ⊎ IsOfReading (range_file holds range) range old new e → told ≡ []
+    → IsRangeFailure holds tells l bounds told old new e
+looked holds tells l bounds range found e told old new lawful is other (inl rows) none =
+    subst (IsRangeFailure holds tells l bounds told old new) (sym rows.0) (of_keys range found lawful is other rows.1 none)
+looked holds tells l bounds range found e told old new lawful is other (inr why) none = of_rows range e lawful is why none
 
 -- a failure that was found after the rows were looked at
-pub looked-at : {Same Rows After Other : Type 0} → (Same × Rows) ⊎ Other → (Same × (After → Rows)) ⊎ Other
-looked-at (inl rows) = inl (rows.0, λ _. rows.1)
-looked-at (inr why) = inr why
+pub looked-at : {Same Counted Kept Other : Type 0} (after : Bool) → after ≡ true → (Same × Counted) ⊎ Other → (Same × ((after ≡ true → Counted) × (after ≡ false → Kept))) ⊎ Other
+looked-at after is (inl rows) = inl (rows.0, ((λ _. rows.1), λ before. absurd (false≢true (sym before ∙ is))))
+looked-at after is (inr why) = inr why

@@ -1,5 +1,5 @@
 -- The rows of a range, and what its parts get.
-use Rattle.std.proofs.Common.{◌≡◌, ◌∙◌, ◌<◌, ◌∷◌, ◌++◌, ℕ, zero, suc, List, [], All, false, Option, None, Some, Ok, Err, refl, sym, ap, ap₂, subst, arith, inl, inr, length, map, get_or, take}
+use Rattle.std.proofs.Common.{◌≡◌, ◌≢◌, ◌∙◌, ◌<◌, ◌∷◌, ◌++◌, ℕ, zero, suc, List, [], All, Bool, false, true, true≢false, Option, None, Some, Ok, Err, refl, sym, ap, ap₂, subst, arith, inl, inr, length, map, get_or, take}
 use Rattle.std.specs.Prelude.{IfSome, nat_lt, replicate, ◌==◌}
 use Rattle.std.specs.Io.KnownBytes.{Appends}
 use Rattle.std.proofs.Math.Seq.{take-append_seam}
@@ -11,14 +11,18 @@ use Rattle.rj_columns.specs.Tables.{TableValue}
 use Rattle.rj_columns.specs.declared.cell.ColumnType.{ColumnType}
 use Rattle.rj_columns.specs.declared.refused.BuildRefused.{BuildRefused}
 use Rattle.rj_columns.specs.declared.refused.BuildRefused.TheVariants as build
-use Rattle.rj_divide.specs.Headers.{HaveText}
-use Rattle.rj_divide.specs.Texts.{IsTextDivided}
+use Rattle.rj_divide.specs.Headers.{HaveText, HaveTextBefore}
+use Rattle.rj_divide.specs.Texts.{HaveFirstRows, IsTextDivided}
+use Rattle.rj_divide.specs.declared.refused.DivideRefused.{DivideRefused}
 use Rattle.rj_divide.specs.declared.refused.DivideRefused.TheVariants as refused
 use Rattle.rj_fault.specs.declared.fault.Fault.{Fault}
 use Rattle.shards.specs.Lines.{operand_of}
-use Rattle.shards.specs.Ranges.{AreAllRows, AreParted, IsFileFault, IsOfRows, bytes_between, range_begin, range_bytes, range_dividing, range_file, range_header, range_reading}
+use Rattle.shards.specs.Ranges.{AreAllRows, AreParted, HaveHeaderBefore, IsFileFault, IsOfPartRows, IsOfParts, bytes_between, range_begin, range_bytes, range_dividing, range_file, range_header, range_reading}
 use Rattle.shards.specs.declared.dividing.Range.{Range}
+use Rattle.shards.specs.declared.failure.Failure.{Failure}
 use Rattle.shards.specs.declared.failure.Failure.TheVariants.{Told}
+use Rattle.rj_divide.proofs.DivisionFacts.{part-none}
+use Rattle.rj_divide.proofs.FirstFacts.{begin-none}
 use Rattle.shards.specs.declared.line.Operand.{Operand}
 use Rattle.shards.proofs.StorageFacts.{if-told}
 
@@ -43,16 +47,37 @@ begun-types names types t e = elim (cases_Bool (nat_lt 256 (length names))) [
 pub begun-by-own : (names : List (List ℕ)) (types own : List ColumnType) (t : TableValue) → empty_table names types ≡ Ok t → own ≡ t.types → empty_table names own ≡ Ok t
 begun-by-own names types own t e is = ap (empty_table names) (is ∙ begun-types names types t e) ∙ e
 
+-- parts that have got none of the rows of a range
+none-got : (part : List Content → ℕ) (file : Option (List ℕ)) (range : Range) (told : List (Option (List ℕ))) (e : DivideRefused)
+    → IfSome file (λ text. HaveFirstRows (range_dividing part range) (range_reading range.line.now.strict range.from) (range_bytes range text) told told e)
+none-got part file range told e =
+    if-told file (λ text. HaveFirstRows (range_dividing part range) (range_reading range.line.now.strict range.from) (range_bytes range text) told told e) (λ text p low other. (
+      [],
+      begin-none range.delimiter (length range.types.now) (range_reading range.line.now.strict range.from) (range_bytes range text),
+      part-none (range_dividing part range) told told p refl,
+    ))
+
 -- a file that can't be opened has no rows that are divided
-pub unopened-rows : (part : List Content → ℕ) (file : Option (List ℕ)) (range : Range) (parts : ℕ) (f : Fault) → IsFileFault range.line.now.side f → IsOfRows part file range parts (Told f)
-unopened-rows part file range parts f (inl device) = (refused.ReadDevice, ap Told device, if-told file _ (λ text. tt))
-unopened-rows part file range parts f (inr memory) = (refused.Memory, ap Told memory, if-told file _ (λ text. tt))
+pub unopened-rows : (part : List Content → ℕ) (file : Option (List ℕ)) (range : Range) (told : List (Option (List ℕ))) (f : Fault) → IsFileFault range.line.now.side f
+    → IsOfPartRows part file range told told (Told f)
+unopened-rows part file range told f (inl device) = (refused.ReadDevice, ap Told device, if-told file _ (λ text. tt), none-got part file range told refused.ReadDevice)
+unopened-rows part file range told f (inr memory) = (refused.Memory, ap Told memory, if-told file _ (λ text. tt), none-got part file range told refused.Memory)
 
 -- the rows of a range that was divided
 pub all-rows : (part : List Content → ℕ) (file : Option (List ℕ)) (range : Range) (before after : List (Option (List ℕ))) (n : ℕ)
-    → IfSome file (λ text. IsTextDivided (range_dividing part range) (range_reading range.line.now.strict range.from) (range_bytes range text) before after n) → AreAllRows file range
+    → IfSome file (λ text. IsTextDivided (range_dividing part range) (range_reading range.line.now.strict range.from) (range_bytes range text) before after n) → AreAllRows file range n
 all-rows part None range before after n divided = tt
-all-rows part (Some text) range before after n divided = (divided.0, divided.2.rows, divided.1, divided.2.read)
+all-rows part (Some text) range before after n divided = (divided.0, divided.2.rows, divided.1, divided.2.read, divided.2.many)
+
+abbrev is_write : DivideRefused → Bool
+is_write (refused.WriteDevice p) = true
+is_write _ = false
+
+-- what the parts have of a header that isn't written to all
+pub header-before : (header : List ℕ) (before after : List (Option (List ℕ))) (e : DivideRefused) → ((p : ℕ) → e ≡ refused.WriteDevice p → HaveTextBefore p header before after)
+    → (((p : ℕ) → e ≢ refused.WriteDevice p) → after ≡ before) → HaveHeaderBefore header before after e
+header-before header before after (refused.WriteDevice p) failed kept = failed p refl
+header-before header before after e failed kept = kept (λ p is. true≢false (sym (ap is_write is)))
 
 -- an output that had got nothing has what was put
 only-put : (before after : Option (List ℕ)) (text : List ℕ) → before ≡ Some [] → Appends before after text → after ≡ Some text
@@ -104,6 +129,15 @@ pub range-told : (holds : List ℕ → Option (List ℕ)) (range : Range) (o : O
 range-told holds range o begin tells own from told =
     subst (λ b. IfSome (range_file holds range) (λ text. tells ≡ Some (bytes_between b range.to text))) from
     (subst (λ (p : Operand). IfSome (holds p.file.now) (λ text. tells ≡ Some (bytes_between begin range.to text))) own told)
+
+-- why parts aren't filled, told of all of them and not of a slice
+pub written-fault : {X : Type 0} (told : X → Option (List ℕ)) (file : Option (List ℕ)) (range : Range) (len : ℕ) (part other : List Content → ℕ) (slice items new rest : List X) (e : Failure)
+    → part ≡ other → slice ≡ items → len ≡ length new → IsOfParts part file range (map told slice) (map told new) e
+    → IsOfParts other file range (map told items) (map told (take len (new ++ rest))) e
+written-fault {X} told file range len part other slice items new rest e alike same size why =
+    subst (λ p. IsOfParts p file range (map told items) (map told (take len (new ++ rest))) e) alike
+    (subst (λ (l : List X). IsOfParts part file range (map told items) (map told l) e) (sym (written-back len new rest size))
+    (subst (λ (l : List X). IsOfParts part file range (map told l) (map told new) e) same why))
 
 -- so the parts that a slice of them filled have what it got
 pub written-parts : {X : Type 0} (told : X → Option (List ℕ)) (file : Option (List ℕ)) (range : Range) (n len : ℕ) (part other : List Content → ℕ) (slice items new rest : List X)

@@ -10,7 +10,7 @@ use Rattle.rj_fault.specs.declared.fault.Side.{Side}
 use Rattle.rj_line.specs.declared.request.Strictness.TheVariants as strictness
 use Rattle.shards.specs.Heads.{HasHead, HasHeadFault}
 use Rattle.shards.specs.Lines.{operand_of}
-use Rattle.shards.specs.Ranges.{IsFileFault, IsOfWriting, division_fault}
+use Rattle.shards.specs.Ranges.{IsFileFault, division_fault}
 use Rattle.shards.specs.declared.cutting.CutText.{CutText}
 use Rattle.shards.specs.declared.failure.Failure.{Failure}
 use Rattle.shards.specs.declared.failure.Failure.TheVariants as failure
@@ -61,10 +61,11 @@ pub data IsCutting (holds : Text → Option Text) (l : Line) (ranges : ℕ) (old
       → IsCutting holds l ranges old new
 
 -- why they aren't printed: the file has no header that can be read, or has no places, or can't be
--- read, or the output failed
-pub data IsCutsFailure (holds : Text → Option Text) (l : Line) (ranges : ℕ) : Failure → Type 0 where
-  of_head : (f : Fault) → HasHeadFault strictness.Off (operand_of l l.side).delimiter l.side (side_file holds l) f → IsCutsFailure holds l ranges (failure.Told f)
-  of_cuts : (cut : CutText) (e : Failure) → IsCutText holds l ranges cut → IfSome (side_file holds l) (λ text. HasCutFailure l.side (drop cut.begin text) e)
-      → IsCutsFailure holds l ranges e
-  of_file : (f : Fault) → IsFileFault l.side f → IsCutsFailure holds l ranges (failure.Told f)
-  of_output : (e : Failure) → IsOfWriting e → IsCutsFailure holds l ranges e
+-- read, and nothing is printed; or the output failed
+pub data IsCutsFailure (holds : Text → Option Text) (l : Line) (ranges : ℕ) (old new : Option Text) : Failure → Type 0 where
+  of_head : (f : Fault) → HasHeadFault strictness.Off (operand_of l l.side).delimiter l.side (side_file holds l) f → new ≡ old
+      → IsCutsFailure holds l ranges old new (failure.Told f)
+  of_cuts : (cut : CutText) (e : Failure) → IsCutText holds l ranges cut → IfSome (side_file holds l) (λ text. HasCutFailure l.side (drop cut.begin text) e) → new ≡ old
+      → IsCutsFailure holds l ranges old new e
+  of_file : (f : Fault) → IsFileFault l.side f → new ≡ old → IsCutsFailure holds l ranges old new (failure.Told f)
+  of_output : (e : Failure) → e ≡ failure.Told fault.WriteDevice → IsCutsFailure holds l ranges old new e

@@ -19,7 +19,7 @@ use Rattle.rj_fault.specs.declared.fault.Side.TheVariants as side
 use Rattle.rj_types.specs.Columns.{types_under}
 use Rattle.shards.specs.Heads.{HasHead, HasHeadFault}
 use Rattle.shards.specs.Lines.{operand_of}
-use Rattle.shards.specs.Ranges.{AreAllRows, AreDivided, IsOfParts, IsOfRows, IsOfWriting, mixed_shard, range_file, unlawful_null}
+use Rattle.shards.specs.Ranges.{AreCounted, AreDivided, IsOfFolder, IsOfReading, mixed_shard, range_file, unlawful_null}
 use Rattle.shards.specs.declared.dividing.Range.{Range}
 use Rattle.shards.specs.declared.failure.Failure.{Failure}
 use Rattle.shards.specs.declared.failure.Failure.TheVariants as failure
@@ -83,6 +83,10 @@ is_after_rows failure.NoKey = false
 is_after_rows (failure.Told fault.Memory) = false
 is_after_rows e = true
 
+-- so all rows are counted then, or else nothing is printed
+abbrev pub IsToldAfter : Option Text → Range → Option Text → Option Text → Failure → Type 0
+IsToldAfter file range old new e = (is_after_rows e ≡ true → AreCounted file range old new) × (is_after_rows e ≡ false → new ≡ old)
+
 -- (`holds` is what the files of names have)
 
 -- the header of a side's file, and why there is none
@@ -131,18 +135,23 @@ pub record IsDivision (holds : Text → Option Text) (tells : Bool) (l : Line) (
   pub count : length told ≡ l.parts
   pub divided : AreDivided tells (range_file holds range) (mixed_shard l.parts columns) range told old new
 
--- why a range isn't divided, in this order: a text for NULL may not stand for it, unless the file can't
--- be read; the side's header isn't read, or makes no table; its rows are not divided; the other file or
--- the clause gives no keys, which most failures tell only after all rows were read
-pub data IsRangeFailure (holds : Text → Option Text) (l : Line) (bounds : Bounds) : Failure → Type 0 where
+-- why a side's file isn't read up to its rows, in this order: a text for NULL may not stand for it, unless
+-- the file can't be read; the side's header isn't read, or makes no table
+pub data IsOwnFailure (holds : Text → Option Text) (l : Line) : Failure → Type 0 where
   of_nulls : (head : Result Head Fault) → MatchResult head (HasSideHead holds l l.side) (HasSideHeadFault holds l l.side) → has_lawful_nulls l ≡ false
-      → IsRangeFailure holds l bounds (unlawful_null head)
-  of_head : (f : Fault) → has_lawful_nulls l ≡ true → HasSideHeadFault holds l l.side f → IsRangeFailure holds l bounds (failure.Told f)
+      → IsOwnFailure holds l (unlawful_null head)
+  of_head : (f : Fault) → has_lawful_nulls l ≡ true → HasSideHeadFault holds l l.side f → IsOwnFailure holds l (failure.Told f)
   of_table : (head : Head) (f : Fault) → has_lawful_nulls l ≡ true → HasSideHead holds l l.side head
-      → (f ≢ fault.Memory → IsHeaderFault head (operand_of l l.side) l.side f) → IsRangeFailure holds l bounds (failure.Told f)
+      → (f ≢ fault.Memory → IsHeaderFault head (operand_of l l.side) l.side f) → IsOwnFailure holds l (failure.Told f)
+
+-- why a range isn't divided, in this order, and what is there then: the side's file isn't read up to its
+-- rows; these are not divided among the parts; or, without parts, they aren't all read, or the other file
+-- or the clause gives no keys, which most failures tell only after all rows were read and counted
+pub data IsRangeFailure (holds : Text → Option Text) (tells : Bool) (l : Line) (bounds : Bounds) (told : List (Option Text)) (old new : Option Text) : Failure → Type 0 where
+  of_own : (e : Failure) → IsOwnFailure holds l e → told ≡ [] → new ≡ old → IsRangeFailure holds tells l bounds told old new e
   of_parts : (range : Range) (columns : List ℕ) (e : Failure) → has_lawful_nulls l ≡ true → IsRangeOf holds l bounds range → AreKeysOver holds l range.own.now columns
-      → IsOfParts (range_file holds range) (mixed_shard l.parts columns) range l.parts e → IsRangeFailure holds l bounds e
-  of_rows : (range : Range) (e : Failure) → has_lawful_nulls l ≡ true → IsRangeOf holds l bounds range
-      → IsOfRows (λ _. 0) (range_file holds range) range 1 e ⊎ IsOfWriting e → IsRangeFailure holds l bounds e
-  of_keys : (range : Range) (e : Failure) → has_lawful_nulls l ≡ true → IsRangeOf holds l bounds range
-      → IsOtherFailure holds l range.own.now e → (is_after_rows e ≡ true → AreAllRows (range_file holds range) range) → IsRangeFailure holds l bounds e
+      → IsOfFolder tells (range_file holds range) (mixed_shard l.parts columns) range l.parts told old new e → IsRangeFailure holds tells l bounds told old new e
+  of_rows : (range : Range) (e : Failure) → has_lawful_nulls l ≡ true → IsRangeOf holds l bounds range → IsOfReading (range_file holds range) range old new e → told ≡ []
+      → IsRangeFailure holds tells l bounds told old new e
+  of_keys : (range : Range) (e : Failure) → has_lawful_nulls l ≡ true → IsRangeOf holds l bounds range → IsOtherFailure holds l range.own.now e
+      → IsToldAfter (range_file holds range) range old new e → told ≡ [] → IsRangeFailure holds tells l bounds told old new e

@@ -16,10 +16,10 @@ abbrev pub IsTaskDone : (Text → Option Text) → Bool → Line → Task → Li
 IsTaskDone holds tells l (task.Divide bounds folder) told old new = IsDivision holds tells l bounds told old new
 IsTaskDone holds tells l (task.Cut ranges) told old new = (told ≡ []) × IsCutting holds l ranges old new
 
--- why a task isn't done
-abbrev pub IsTaskFailure : (Text → Option Text) → Line → Task → Failure → Type 0
-IsTaskFailure holds l (task.Divide bounds folder) e = IsRangeFailure holds l bounds e
-IsTaskFailure holds l (task.Cut ranges) e = IsCutsFailure holds l ranges e
+-- why a task isn't done, and what is there then
+abbrev pub IsTaskFailure : (Text → Option Text) → Bool → Line → Task → List (Option Text) → Option Text → Option Text → Failure → Type 0
+IsTaskFailure holds tells l (task.Divide bounds folder) told old new e = IsRangeFailure holds tells l bounds told old new e
+IsTaskFailure holds tells l (task.Cut ranges) told old new e = (told ≡ []) × IsCutsFailure holds l ranges old new e
 
 -- the words are a line of the program, whose task is done
 pub record IsWorkDone (holds : Text → Option Text) (tells : Bool) (words : List Text) (told : List (Option Text)) (old new : Option Text) : Type 0 where
@@ -27,7 +27,7 @@ pub record IsWorkDone (holds : Text → Option Text) (tells : Bool) (words : Lis
   pub read : IsShardsLine words line
   pub done : IsTaskDone holds tells line line.task told old new
 
--- the words are no line of the program, or its task isn't done
-pub data IsFailure (holds : Text → Option Text) (words : List Text) : Failure → Type 0 where
-  of_words : (e : Failure) → IsLineFailure words e → IsFailure holds words e
-  of_task : (l : Line) (e : Failure) → IsShardsLine words l → IsTaskFailure holds l l.task e → IsFailure holds words e
+-- the words are no line of the program, and nothing is done; or its task isn't done
+pub data IsFailure (holds : Text → Option Text) (tells : Bool) (words : List Text) (told : List (Option Text)) (old new : Option Text) : Failure → Type 0 where
+  of_words : (e : Failure) → IsLineFailure words e → told ≡ [] → new ≡ old → IsFailure holds tells words told old new e
+  of_task : (l : Line) (e : Failure) → IsShardsLine words l → IsTaskFailure holds tells l l.task told old new e → IsFailure holds tells words told old new e

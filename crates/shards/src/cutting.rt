@@ -68,7 +68,7 @@ fn cut_lines<I: Input>(alloc: Global, input: &mut I, cut: &CutText) -> Result<St
 ///
 /// # Errors
 ///
-/// The file can't be read, the output failed, or memory ran out.
+/// The file can't be read, or memory ran out; nothing is printed then. Or the output failed.
 pub(crate) fn print_cuts<S: Storage, O: Output>(
     alloc: Global,
     storage: &S,
@@ -78,7 +78,7 @@ pub(crate) fn print_cuts<S: Storage, O: Output>(
 ) -> Result<(), Failure>
     requires { O.count output.old < 2 ^ 64 - 1 }
     ensures cutting { OnOk result (IsCutting (S.holds storage.now) line.now ranges (O.told output.old) (O.told output.new)) }
-    ensures failure { IfErr result (IsCutsFailure (S.holds storage.now) line.now ranges) }
+    ensures failure { IfErr result (IsCutsFailure (S.holds storage.now) line.now ranges (O.told output.old) (O.told output.new)) }
 {
     let side = line.side;
     let own = line.operand(side);

@@ -7,9 +7,10 @@ ghost use Rattle.rj_csv_io.specs.Tables.{is_null_text};
 ghost use Rattle.rj_csv_io.specs.Typed.{null_texts};
 ghost use Rattle.rj_divide.specs.Divisions.{written_null};
 ghost use Rattle.rj_divide.specs.Headers.{HaveText};
-ghost use Rattle.rj_divide.specs.Texts.{IsDivisionFault, IsTextDivided};
-ghost use Rattle.shards.specs.Plans.{IsDivision, IsRangeFailure, is_after_rows};
-ghost use Rattle.shards.specs.Ranges.{AreAllRows, AreDivided, AreParted, IsOfHeader, IsOfParts, IsOfRows, IsOfWriting, counts_line, division_fault, mixed_shard, place_name, range_begin, range_begun, range_bytes, range_dividing, range_file, range_header, range_reading, unlawful_null};
+ghost use Rattle.rj_divide.specs.Texts.{HaveFirstRows, IsDivisionFault, IsTextDivided};
+ghost use Rattle.shards.specs.Plans.{HasSideHead, IsDivision, IsOwnFailure, IsRangeFailure, IsToldAfter, has_lawful_nulls, header_table, is_after_rows};
+ghost use Rattle.shards.specs.Lines.{operand_of};
+ghost use Rattle.shards.specs.Ranges.{AreCounted, AreDivided, AreParted, IsOfFolder, IsOfHeader, IsOfPartRows, IsOfParts, IsOfReading, IsOfWriting, counts_line, division_fault, mixed_shard, place_name, range_begin, range_begun, range_bytes, range_dividing, range_file, range_header, range_reading, unlawful_null};
 
 use crate::failure::Failure;
 use crate::head::Head;
@@ -128,6 +129,10 @@ fn divide_input<I: Input, W: Route, O: Output>(
     // where the header and the types go together, an error comes for this alone
     ensures fault { IfErr result (λ e. (t : TableValue) → range_begun range.now ≡ Ok t → IfSome (I.tells input.old) (λ text. IsDivisionFault
         (range_dividing (W.part route.now) range.now) BLOCK (range_reading range.now.line.now.strict range.now.from) text (length outputs.old) e)) }
+
+    // and each output but one that failed has its rows among the first ones
+    ensures partly { IfErr result (λ e. IfSome (I.tells input.old) (λ text. HaveFirstRows (range_dividing (W.part route.now) range.now)
+        (range_reading range.now.line.now.strict range.now.from) text (map O.told outputs.old) (map O.told outputs.new) e)) }
 {
     let division = Division {
         delimiter: range.delimiter,
@@ -157,11 +162,14 @@ fn divide_rows<S: Storage, W: Route, O: Output>(
     requires writes { All (λ o. O.count o < 2 ^ 64 - 1) outputs.old }
     ensures divided { IfOk result (λ n. IfSome (range_file (S.holds storage.now) range.now) (λ text. IsTextDivided (range_dividing (W.part route.now) range.now)
         (range_reading range.now.line.now.strict range.now.from) (range_bytes range.now text) (map O.told outputs.old) (map O.told outputs.new) n)) }
-    ensures fault { IfErr result (IsOfRows (W.part route.now) (range_file (S.holds storage.now) range.now) range.now (length outputs.old)) }
+    ensures fault { IfErr result (IsOfPartRows (W.part route.now) (range_file (S.holds storage.now) range.now) range.now (map O.told outputs.old) (map O.told outputs.new)) }
 {
     let side = range.line.side;
     let file = range.line.operand(side).file;
-    let mut input = open_range(storage, file, side, begin_of(range), range.to)?;
+    let mut input = match open_range(storage, file, side, begin_of(range), range.to) {
+        Ok(input) => input,
+        Err(fault) => return Err(Failure::Told(fault)),
+    };
     match divide_input(alloc, range, route, &mut input, outputs) {
         Ok(rows) => Ok(rows),
         Err(refused) => Err(Failure::Told(fault_of_division(side, refused))),
@@ -184,9 +192,11 @@ fn print_counts<O: Output>(
 ) -> Result<(), Failure>
     requires { O.count output.old < 2 ^ 64 - 1 }
     ensures printed { OnOk result (Appends (O.told output.old) (O.told output.new) (counts_line rows header)) }
-    ensures fault { IfErr result IsOfWriting }
+    ensures fault { IfErr result (IsOfWriting (O.told output.old) (O.told output.new)) }
 {
-    let text = counts_line(alloc, rows, header)?;
+    let Ok(text) = counts_line(alloc, rows, header) else {
+        return Err(Failure::Told(Fault::Memory));
+    };
     print_text(output, text.as_str())
 }
 
@@ -200,7 +210,7 @@ fn put_headers<O: Output>(
     ensures told { OnOk result (HaveText (range_header range.now) (map O.told outputs.old) (map O.told outputs.new)) }
     ensures size { IfOk result (λ n. n ≡ length (range_header range.now)) }
     ensures writes { OnOk result (All (λ o. O.count o < 2 ^ 64 - 1) outputs.new) }
-    ensures fault { IfErr result (IsOfHeader range.now (length outputs.old)) }
+    ensures fault { IfErr result (IsOfHeader range.now (map O.told outputs.old) (map O.told outputs.new)) }
 {
     let side = range.line.side;
     match write_headers(alloc, range.own, place_name(side), outputs) {
@@ -227,14 +237,20 @@ fn fill_parts<S: Storage, W: Route, O: Output>(
     ensures parted { IfOk result (λ p. All (λ o. O.told o ≡ Some []) outputs.old
         → AreParted (range_file (S.holds storage.now) range.now) (W.part route.now) range.now (map O.told outputs.new) p.0) }
     ensures header { IfOk result (λ p. p.1 ≡ length (range_header range.now)) }
-    ensures fault { IfErr result (IsOfParts (range_file (S.holds storage.now) range.now) (W.part route.now) range.now (length outputs.old)) }
+    ensures fault { IfErr result (IsOfParts (W.part route.now) (range_file (S.holds storage.now) range.now) range.now (map O.told outputs.old) (map O.told outputs.new)) }
 {
-    let header = put_headers(alloc, range, outputs)?;
-    let rows = divide_rows(alloc, storage, range, route, outputs)?;
-    Ok((rows, header))
+    let header = match put_headers(alloc, range, outputs) {
+        Ok(header) => header,
+        Err(failure) => return Err(failure),
+    };
+    match divide_rows(alloc, storage, range, route, outputs) {
+        Ok(rows) => Ok((rows, header)),
+        Err(failure) => Err(failure),
+    }
 }
 
-// Divides a range among the parts of a folder, and prints how many rows it has.
+// Divides a range among the parts of a folder, and prints how many rows it has. The answer is
+// whether all this was done, and the parts, which are none if they couldn't be made.
 fn divide_among_parts<S: Storage, O: Output>(
     alloc: Global,
     storage: &S,
@@ -242,16 +258,17 @@ fn divide_among_parts<S: Storage, O: Output>(
     plan: &(Shards, Vec<usize>),
     folder: &str,
     output: &mut O,
-) -> Result<Vec<S::Part>, Failure>
+) -> (Result<(), Failure>, Vec<S::Part>)
     requires keys { All (λ c. c < length range.now.types.now) plan.now.1.items }
     requires from { range.now.from ≤ 2 ^ 62 }
     requires null { IsTrue (is_null_text (written_null (null_texts range.now.nulls.now))) }
     requires table { range_begun range.now ≡ Ok range.now.own.now }
     requires output { O.count output.old < 2 ^ 64 - 1 }
-    ensures count { IfOk result (λ v. length v.items ≡ plan.now.0.parts) }
-    ensures divided { IfOk result (λ v. AreDivided (S.tells_parts storage.now) (range_file (S.holds storage.now) range.now) (mixed_shard plan.now.0.parts plan.now.1.items) range.now
-        (map S.Part.told v.items) (O.told output.old) (O.told output.new)) }
-    ensures fault { IfErr result (IsOfParts (range_file (S.holds storage.now) range.now) (mixed_shard plan.now.0.parts plan.now.1.items) range.now plan.now.0.parts) }
+    ensures count { OnOk result.0 (length result.1.items ≡ plan.now.0.parts) }
+    ensures divided { OnOk result.0 (AreDivided (S.tells_parts storage.now) (range_file (S.holds storage.now) range.now) (mixed_shard plan.now.0.parts plan.now.1.items) range.now
+        (map S.Part.told result.1.items) (O.told output.old) (O.told output.new)) }
+    ensures fault { IfErr result.0 (IsOfFolder (S.tells_parts storage.now) (range_file (S.holds storage.now) range.now) (mixed_shard plan.now.0.parts plan.now.1.items) range.now
+        plan.now.0.parts (map S.Part.told result.1.items) (O.told output.old) (O.told output.new)) }
 {
     let (shards, columns) = plan;
     let route = ShardRoute {
@@ -259,10 +276,16 @@ fn divide_among_parts<S: Storage, O: Output>(
         columns: columns.as_slice(),
         hash: &Mixed,
     };
-    let mut parts = storage.parts(folder, shards.parts)?;
-    let counts = fill_parts(alloc, storage, range, &route, parts.as_mut_slice())?;
-    print_counts(alloc, counts.0, counts.1, output)?;
-    Ok(parts)
+    let Ok(mut parts) = storage.parts(folder, shards.parts) else {
+        return (Err(Failure::Told(Fault::Memory)), Vec::new(alloc));
+    };
+    match fill_parts(alloc, storage, range, &route, parts.as_mut_slice()) {
+        Ok(counts) => {
+            let printed = print_counts(alloc, counts.0, counts.1, output);
+            (printed, parts)
+        }
+        Err(failure) => (Err(failure), parts),
+    }
 }
 
 // Reads a range's rows though they can't be divided, because of a failure. The answer is the first
@@ -278,8 +301,8 @@ fn look_at_rows<S: Storage, O: Output>(
     requires null { IsTrue (is_null_text (written_null (null_texts range.now.nulls.now))) }
     requires table { range_begun range.now ≡ Ok range.now.own.now }
     requires output { O.count output.old < 2 ^ 64 - 1 }
-    ensures { ((result ≡ failure) × AreAllRows (range_file (S.holds storage.now) range.now) range.now)
-        ⊎ (IsOfRows (λ _. 0) (range_file (S.holds storage.now) range.now) range.now 1 result ⊎ IsOfWriting result) }
+    ensures { ((result ≡ failure) × AreCounted (range_file (S.holds storage.now) range.now) range.now (O.told output.old) (O.told output.new))
+        ⊎ IsOfReading (range_file (S.holds storage.now) range.now) range.now (O.told output.old) (O.told output.new) result }
 {
     let mut sink = [NullSink];
     match divide_rows(alloc, storage, range, &OnePart, sink.as_mut_slice()) {
@@ -291,8 +314,8 @@ fn look_at_rows<S: Storage, O: Output>(
     }
 }
 
-// Whether a failure is reported only after the rows were read: all but that there is no key, and that
-// memory ran out.
+// Whether a failure is reported only after the rows were read: all but that there is no key, and
+// that memory ran out.
 fn is_after_rows(failure: &Failure) -> bool
     ensures { result ≡ is_after_rows failure.now }
 {
@@ -315,8 +338,8 @@ fn failure_of_range<S: Storage, O: Output>(
     requires null { IsTrue (is_null_text (written_null (null_texts range.now.nulls.now))) }
     requires table { range_begun range.now ≡ Ok range.now.own.now }
     requires output { O.count output.old < 2 ^ 64 - 1 }
-    ensures { ((result ≡ failure) × (is_after_rows failure ≡ true → AreAllRows (range_file (S.holds storage.now) range.now) range.now))
-        ⊎ (IsOfRows (λ _. 0) (range_file (S.holds storage.now) range.now) range.now 1 result ⊎ IsOfWriting result) }
+    ensures { ((result ≡ failure) × IsToldAfter (range_file (S.holds storage.now) range.now) range.now (O.told output.old) (O.told output.new) failure)
+        ⊎ IsOfReading (range_file (S.holds storage.now) range.now) range.now (O.told output.old) (O.told output.new) result }
 {
     if !is_after_rows(&failure) {
         return failure;
@@ -335,24 +358,18 @@ fn unlawful_null(head: Result<Head, Fault>) -> Failure
     }
 }
 
-/// Divides the bytes of a side's file between two places among the parts of a folder, and prints
-/// how many rows they have. The answer is the parts.
-///
-/// # Errors
-///
-/// `BadNull`; the first error of the side's file; then one of the other file's header, or of the
-/// clause, after the rows were read all the same.
-pub(crate) fn divide_range<S: Storage, O: Output>(
+// What is read of the side's file before its rows: the header, the table without rows that it
+// begins, and the types of that.
+fn read_own<S: Storage>(
     alloc: Global,
     storage: &S,
     line: &Line<'_>,
-    bounds: Bounds,
-    folder: &str,
-    output: &mut O,
-) -> Result<Vec<S::Part>, Failure>
-    requires { O.count output.old < 2 ^ 64 - 1 }
-    ensures division { IfOk result (λ v. IsDivision (S.holds storage.now) (S.tells_parts storage.now) line.now bounds (map S.Part.told v.items) (O.told output.old) (O.told output.new)) }
-    ensures failure { IfErr result (IsRangeFailure (S.holds storage.now) line.now bounds) }
+) -> Result<(Head, Table, Vec<ColumnType>), Failure>
+    ensures lawful { OnOk result (has_lawful_nulls line.now ≡ true) }
+    ensures head { IfOk result (λ p. HasSideHead (S.holds storage.now) line.now line.now.side p.0) }
+    ensures table { IfOk result (λ p. header_table p.0 (operand_of line.now line.now.side) ≡ Ok p.1) }
+    ensures types { IfOk result (λ p. p.2.items ≡ p.1.types) }
+    ensures failure { IfErr result (IsOwnFailure (S.holds storage.now) line.now) }
 {
     let own = line.operand(line.side);
     let other = line.operand(other_side(line.side));
@@ -370,8 +387,38 @@ pub(crate) fn divide_range<S: Storage, O: Output>(
     }
     let head = head?;
     let table = empty_table(alloc, &head, own, line.side)?;
-    let kinds = types_of(alloc, &table)?;
+    let types = types_of(alloc, &table)?;
+    Ok((head, table, types))
+}
+
+/// Divides the bytes of a side's file between two places among the parts of a folder, and prints
+/// how many rows they have. The answer is whether all this was done, and the parts, which are none
+/// if they weren't made.
+///
+/// # Errors
+///
+/// `BadNull`; the first error of the side's file; then one of the other file's header, or of the
+/// clause, after the rows were read all the same. Parts that were made have the header then, and
+/// their rows among the first ones, but for one that failed.
+pub(crate) fn divide_range<S: Storage, O: Output>(
+    alloc: Global,
+    storage: &S,
+    line: &Line<'_>,
+    bounds: Bounds,
+    folder: &str,
+    output: &mut O,
+) -> (Result<(), Failure>, Vec<S::Part>)
+    requires { O.count output.old < 2 ^ 64 - 1 }
+    ensures division { OnOk result.0 (IsDivision (S.holds storage.now) (S.tells_parts storage.now) line.now bounds (map S.Part.told result.1.items) (O.told output.old) (O.told output.new)) }
+    ensures failure { IfErr result.0 (IsRangeFailure (S.holds storage.now) (S.tells_parts storage.now) line.now bounds (map S.Part.told result.1.items) (O.told output.old) (O.told output.new)) }
+{
+    let (head, table, kinds) = match read_own(alloc, storage, line) {
+        Ok(own) => own,
+        Err(failure) => return (Err(failure), Vec::new(alloc)),
+    };
+    let own = line.operand(line.side);
     let types = kinds.as_slice();
+    let nulls = own.nulls.as_slice();
     let from = bounds.from.min(MOST);
     let range = Range {
         line,
@@ -385,6 +432,9 @@ pub(crate) fn divide_range<S: Storage, O: Output>(
     };
     match plan(alloc, storage, line, &table) {
         Ok(plan) => divide_among_parts(alloc, storage, &range, &plan, folder, output),
-        Err(failure) => Err(failure_of_range(alloc, storage, &range, failure, output)),
+        Err(failure) => {
+            let failure = failure_of_range(alloc, storage, &range, failure, output);
+            (Err(failure), Vec::new(alloc))
+        }
     }
 }

@@ -47,7 +47,8 @@ impl From<AllocError> for ExplainedFailure {
 // The options that a join in one go doesn't have; each takes a value.
 const OWN_OPTIONS: [&str; 6] = ["--side", "--parts", "--from", "--to", "--out", "--cuts"];
 
-// Whether a word is an option that a join in one go doesn't have, with its value after `=` or without.
+// Whether a word is an option that a join in one go doesn't have, with its value after `=` or
+// without.
 fn is_own_option(word: &str) -> bool
     ensures { result ≡ is_own_option word.now }
 {

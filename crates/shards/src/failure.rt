@@ -6,8 +6,8 @@ use rj_command::{ExitReason, Fault};
 use std::alloc::AllocError;
 use std::fmt;
 
-/// Why a file wasn't divided. The text is the line that is printed, without its line end; an error of a file or of the
-/// clause has the line that `radixjoin` prints.
+/// Why a file wasn't divided. The text is the line that is printed, without its line end; an error
+/// of a file or of the clause has the line that `radixjoin` prints.
 #[derive(Drop)]
 pub(crate) enum Failure {
     /// An error of the command line, a file, the clause or the machine.

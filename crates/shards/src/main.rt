@@ -40,8 +40,9 @@ fn run<R: Env + Files + AllocGlobal + Print>(rt: &R) -> Result<(), ExplainedFail
     let texts = texts_of(alloc, words.as_slice())?;
     let disk = Disk { rt };
     let mut output = CountedWriter::new(io::writer(rt));
-    match divide_words(alloc, &disk, texts.as_slice(), &mut output) {
-        Ok(_) => Ok(()),
+    let (ended, _parts) = divide_words(alloc, &disk, texts.as_slice(), &mut output);
+    match ended {
+        Ok(()) => Ok(()),
         Err(failure) => Err(explained(alloc, &disk, texts.as_slice(), failure)),
     }
 }

@@ -58,8 +58,8 @@ pub(crate) trait Storage {
     ///
     /// # Errors
     ///
-    /// It fails only when memory runs out. If the folder can't be made, this shows when something is
-    /// put to a part.
+    /// It fails only when memory runs out. If the folder can't be made, this shows when something
+    /// is put to a part.
     fn parts(&self, folder: &str, count: u32) -> Result<Vec<Self::Part>, AllocError>
         ensures count { IfOk result (λ v. length v.items ≡ count) }
         ensures empty { IfOk result (λ v. tells_parts self.now ≡ true → All (λ p. Self.Part.told p ≡ Some []) v.items) }
