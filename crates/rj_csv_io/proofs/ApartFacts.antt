@@ -120,8 +120,8 @@ module _ (nulls : List (List ℕ)) (null : List ℕ) (among : is_null_field null
       with_header (header ∷ rest) e = under header rest (empty_table header types) refl e
 
 -- and then each cell that isn't null is told from null
-pub clear-from : (null : List ℕ) (rows : List (List Content)) → is_null_text null ≡ true → AreApart null rows → AreClear null rows
-clear-from null rows lawful apart row col = go (cell_in rows row col) (apart row col)
+pub told_apart : (null : List ℕ) (rows : List (List Content)) → is_null_text null ≡ true → AreApart null rows → AreClear null rows
+told_apart null rows lawful apart row col = go (cell_in rows row col) (apart row col)
   where
     go : (x : Content) → x ≢ word null → is_ambiguous null x ≡ false
     go nothing other = refl

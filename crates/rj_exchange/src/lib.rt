@@ -8,7 +8,7 @@
 //! what the rule says of them together.
 //!
 //! Every call needs boxes, stubs and seats that were opened with the value with which they are
-//! used. The functions of `laws` do nothing; their contracts are theorems that callers use.
+//! used. The functions of `laws` do nothing; their contracts are theorems.
 #![tactic(auto)]
 
 mod boxes;
@@ -21,10 +21,7 @@ mod tickets;
 
 pub use boxes::{Exchange, Finished, Full, Inbox, Outbox, Stub};
 pub use halt::{Halt, HaltSeat};
-pub use laws::{
-    all_sent_holds, full_alone, heard_of_none, holder, put_back_undoes, stubs_by_partition,
-    stubs_of_one,
-};
+pub use laws::{full_alone, heard_of_none, holder};
 pub use posted::Posted;
 pub use stripes::{StripeSeat, Stripes};
 pub use tickets::{Seat, Tickets};

@@ -134,6 +134,7 @@ refused_stays (Accepted n) v x h = absurd h
 refused_stays Held v x h = absurd h
 refused_stays (Refused r) v x h = refl
 
+-- a complete ledger stays as it is, whatever is offered
 pub complete_stays : (v : LedgerValue) (xs : List Parcel) → IsComplete v → after_all v xs ≡ v
 complete_stays v [] whole = refl
 complete_stays v (x ∷ xs) whole =

@@ -1,16 +1,14 @@
-//! Laws: each of these functions does nothing; its contract is a theorem about every ledger, list
-//! of parcels or plan.
+//! Laws: each of these functions does nothing; its contract is a theorem about every ledger or
+//! list of parcels.
 
-ghost use Rattle.std.specs.Prelude.{List, slice_get, [], ◌++◌, ◌≡◌, ◌<◌, ◌+◌, ℕ, true, Some, length, All};
+ghost use Rattle.std.specs.Prelude.{List, [], ◌≡◌, ◌<◌, ℕ, true, length};
 ghost use Rattle.rj_ledger.specs.declared.parcel.Parcel.{Parcel};
-ghost use Rattle.rj_ledger.specs.declared.parcel.Answer.TheVariants.{Accepted};
-ghost use Rattle.rj_ledger.specs.Cutting.{bodies, plan, IsPlacedAt};
-ghost use Rattle.rj_ledger.specs.Ledgers.{LedgerValue, opened, standing, answer_to, after_offer, answers, after_all, IsComplete, IsSameShape};
+ghost use Rattle.rj_ledger.specs.Ledgers.{LedgerValue, opened, standing, answer_to, after_offer, answers, after_all};
 ghost use Rattle.rj_ledger.specs.Reading.{IsRefused};
 ghost use Rattle.rj_ledger.specs.Kept.{AreKeptOnce, AreClosedLast, keep, kept, Keeps};
 ghost use Rattle.rj_ledger.specs.KeptRules.{ShowsKept, kept_answer, kept_answers};
-ghost use Rattle.rj_ledger.specs.Lawful.{AreLawful, IsPlanned, HasAll, AreAmong, ContainsPlans, planned_answers};
-ghost use Rattle.rj_ledger.specs.Delivery.{Delivers, DeliversAll, AreExactly};
+ghost use Rattle.rj_ledger.specs.Lawful.{AreLawful, planned_answers};
+ghost use Rattle.rj_ledger.specs.Delivery.{Delivers, AreExactly};
 
 /// If a ledger agrees with the kept parcels, it still does after an offer.
 pub fn offer_keeps()
@@ -59,37 +57,9 @@ pub fn shows_kept()
         → (s : ℕ) → s < length v.senders → ShowsKept ks s (standing v s) }
 {}
 
-/// An accepted parcel advances its sender's next number by the count in the answer.
-pub fn accepted_counts()
-    ensures { (v : LedgerValue) (x : Parcel) (n : ℕ) → answer_to v x ≡ Accepted n
-        → (standing (after_offer v x) x.sender).next ≡ (standing v x.sender).next + n }
-{}
-
 /// Once a sender's close was delivered, each parcel of that sender is refused.
 pub fn closed_refuses()
     ensures { (v : LedgerValue) (x : Parcel) → (standing v x.sender).closed ≡ true → IsRefused (answer_to v x) }
-{}
-
-/// A complete ledger refuses each parcel, and stays unchanged whatever is offered.
-pub fn complete_stays()
-    ensures refuses { (v : LedgerValue) (x : Parcel) → IsComplete v → IsRefused (answer_to v x) }
-    ensures stays { (v : LedgerValue) (xs : List Parcel) → IsComplete v → after_all v xs ≡ v }
-{}
-
-/// Whatever is offered, a ledger's partition, block size and number of senders stay the same.
-pub fn shape_stays()
-    ensures { (v : LedgerValue) (xs : List Parcel) → IsSameShape v (after_all v xs) }
-{}
-
-/// Offering one list and then another is the same as offering both as one.
-pub fn offers_go_on()
-    ensures answers { (v : LedgerValue) (xs ys : List Parcel) → answers v (xs ++ ys) ≡ answers v xs ++ answers (after_all v xs) ys }
-    ensures ledger { (v : LedgerValue) (xs ys : List Parcel) → after_all v (xs ++ ys) ≡ after_all (after_all v xs) ys }
-{}
-
-/// Arrivals that are all planned are lawful.
-pub fn lawful_if_all()
-    ensures { (due : ℕ → ℕ → List ℕ) (block : ℕ) (xs : List Parcel) → All (IsPlanned due block) xs → AreLawful due block xs }
 {}
 
 /// The answers to any lawful arrivals, offered one by one to a ledger to which nothing was offered.
@@ -108,27 +78,4 @@ pub fn offers_keep_exactly()
 pub fn offers_deliver()
     ensures { (due : ℕ → ℕ → List ℕ) (block q n : ℕ) → 0 < block → (xs : List Parcel) → AreLawful due block xs
         → Delivers due block q n xs (after_all (opened q n block) xs) }
-{}
-
-/// A parcel of a plan has the plan's sender and partition. Its number is its place in the plan, and
-/// it carries what is there.
-pub fn plan_is_placed()
-    ensures { (block s p i : ℕ) (rows : List ℕ) (x : Parcel) → slice_get (plan block rows s p) i ≡ Some x → IsPlacedAt s p i (bodies block rows) x }
-{}
-
-/// The parcels of a cut are planned.
-pub fn cut_is_planned()
-    ensures { (due : ℕ → ℕ → List ℕ) (block s p i : ℕ) (x : Parcel) → slice_get (plan block (due s p) s p) i ≡ Some x → IsPlanned due block x }
-{}
-
-/// Arrivals that contain the plans of all senders, in any order and number, are complete.
-pub fn all_plans_suffice()
-    ensures { (due : ℕ → ℕ → List ℕ) (block q n : ℕ) (xs : List Parcel) → ((s : ℕ) → s < n → AreAmong (plan block (due s q) s q) xs) → HasAll due block q n xs }
-{}
-
-/// Planned arrivals that contain the plans of all senders, in any order and number, leave a ledger
-/// that is complete and has delivered of each sender what was due.
-pub fn contained_suffice()
-    ensures { (due : ℕ → ℕ → List ℕ) (block q n : ℕ) → 0 < block → (xs : List Parcel) → All (IsPlanned due block) xs
-        → ContainsPlans due block q n xs → DeliversAll due q n (after_all (opened q n block) xs) }
 {}

@@ -19,3 +19,4 @@ pub mod AboveFacts
 pub mod QuotingFacts
 pub mod MarkedParts
 pub mod PartFacts
+pub mod LawFacts

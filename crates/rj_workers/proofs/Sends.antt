@@ -13,6 +13,7 @@ use native.Mathlib.Decide.{ℕ_discrete, dec_le}
 use Rattle.rj_ledger.specs.declared.parcel.Parcel.{Parcel}
 use Rattle.rj_ledger.specs.Cutting.{plan}
 use Rattle.rj_ledger.specs.Lawful.{IsPlanned}
+use Rattle.rj_ledger.proofs.EngineFacts.{planned_by_cut}
 use Rattle.rj_exchange.specs.declared.boxes.Exchange.{Exchange}
 use Rattle.rj_exchange.specs.Boxes.{queue_of}
 use Rattle.rj_workers.proofs.Lists.{any_default, along}
@@ -113,10 +114,10 @@ module _ (due : Due) (block sender p : ℕ) (rows : List ℕ) (ss new : List Sen
   in_plan : (x : Parcel) → Contains (to_post s) x → Contains (plan block rows sender p) x
   in_plan x h = Contains-permutation (to_post s) (plan block rows sender p) x (IsPermutation-sym (plan block rows sender p) (to_post s) all) h
 
-  pub planned_push : ((s p i : ℕ) (x : Parcel) → slice_get (plan block (due s p) s p) i ≡ Some x → IsPlanned due block x) → ((x : Parcel) → IsLeft ss x → IsPlanned due block x) → (x : Parcel) → IsLeft new x → IsPlanned due block x
-  planned_push law yet x h = elim (left_cases ss new s is x h) [
+  pub planned_push : ((x : Parcel) → IsLeft ss x → IsPlanned due block x) → (x : Parcel) → IsLeft new x → IsPlanned due block x
+  planned_push yet x h = elim (left_cases ss new s is x h) [
     | inl l ↦ yet x l
-    | inr r ↦ let f = found_at (plan block (due sender p) sender p) x (along _ _ x whole (in_plan x r)) in law sender p f.0 x f.1
+    | inr r ↦ let f = found_at (plan block (due sender p) sender p) x (along _ _ x whole (in_plan x r)) in planned_by_cut due block sender p f.0 x f.1
   ]
 
   pub range_push : (e : Exchange) → p < e.partitions → AreInRange e (IsLeft ss) → AreInRange e (IsLeft new)

@@ -12,7 +12,7 @@ use crate::job::Job;
 use crate::settings::WorkerSettings;
 use crate::take::{Building, OwnedPartition, offer};
 use rj_exchange::{Exchange, Outbox, Posted, Stub};
-use rj_ledger::{Ledger, complete_stays};
+use rj_ledger::Ledger;
 use std::alloc::{AllocError, Global};
 use std::sync::Wait;
 use std::vec::IntoIter;
@@ -76,7 +76,6 @@ fn finish_one<R: Wait, J: Job>(
     ensures number { IfOk result (λ d. d.partition ≡ held.inbox.partition) }
     ensures built { IfOk result (λ d. IsBuilding (J.builds shared.now.job.now) held.inbox.partition d.ledger d.building) }
 {
-    complete_stays();
     let OwnedPartition {
         inbox,
         ledger,

@@ -10,7 +10,7 @@ use crate::pause::Pause;
 use crate::places::{Fresh, PartitionPlace, take_place};
 use crate::shared::Shared;
 use rj_exchange::{HaltSeat, Inbox, Seat};
-use rj_ledger::{Ledger, Parcel, complete_stays, shape_stays};
+use rj_ledger::{Ledger, Parcel};
 use std::alloc::{AllocError, Global};
 use std::sync::Wait;
 use std::time::Clock;
@@ -64,7 +64,6 @@ fn take_once<R: Wait, J: Job, G>(
     requires held { IsOwned (J.builds shared.now.job.now) shared.now held.old }
     ensures { IfOk result (λ _. IsOwned (J.builds shared.now.job.now) shared.now held.new) }
 {
-    complete_stays();
     let Some(parcel) = held.inbox.take(rt, shared.exchange, lane) else {
         return Ok(false);
     };
@@ -101,7 +100,6 @@ fn build_complete<J: Job, G: Gate>(
     ensures held { IfOk result (λ _. IsOwned (J.builds shared.now.job.now) shared.now held.new) }
     ensures tried { IfOk result (λ _. is_settled held.old.building ≡ false → IsTried (J.joinable shared.now.job.now) held.new.ledger held.new.building) }
 {
-    shape_stays();
     if is_settled(held) || !held.ledger.complete() {
         return Ok(());
     }
