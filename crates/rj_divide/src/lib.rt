@@ -5,7 +5,6 @@
 mod cuts;
 mod grouped;
 mod header;
-mod laws;
 mod next;
 mod nulls;
 mod part_file;
@@ -21,7 +20,6 @@ mod whole;
 
 pub use cuts::find_cuts;
 pub use header::write_headers;
-pub use laws::divided_in_turn;
 pub use next::{Piece, next_piece};
 pub use nulls::have_lawful_nulls;
 pub use part_file::PartFile;

@@ -21,10 +21,7 @@ use crate::reading::Reading;
 use crate::refused::DivideRefused;
 use crate::route::Route;
 use rj_csv_io::{Output, without_bom};
-use rj_strict::{
-    Delimiter, Header, StrictFault, above_fault, check, joined_texts, quote_empty_lines,
-    reads_all_records, reads_quoted_records,
-};
+use rj_strict::{Delimiter, Header, StrictFault, above_fault, check, quote_empty_lines};
 use std::alloc::{AllocError, Global};
 
 // An error of a block that has this many rows before it.
@@ -48,8 +45,6 @@ fn quote_below_name(alloc: Global, text: &[u8], delimiter: Delimiter) -> Result<
     ensures { IfOk result (λ v. (names : ℕ) (full : Bool) (file : File) → names ≤ 1 → Derives delimiter (Above names) full text.now file
         → piece_records delimiter true (strip_bom v.items) ≡ records_of file) }
 {
-    joined_texts();
-    reads_quoted_records();
     let _byte = delimiter.byte();
     let mut named = Vec::new(alloc);
     named.extend_from_slice(b"x\n")?;
@@ -86,7 +81,6 @@ fn divide_derived<W: Route, O: Output>(
     ensures refusal { IfErr result (λ e. (b : BuildRefused) → table_begun division.now ≡ Err b → before ≡ 0 → IsHeaderRefusal b e) }
     ensures untouched { (b : BuildRefused) → table_begun division.now ≡ Err b → outputs.new ≡ outputs.old }
 {
-    reads_all_records();
     let _byte = division.delimiter.byte();
     if division.types.len() > 1 {
         return divide_records(alloc, division, text, false, before, outputs);

@@ -19,7 +19,6 @@ use crate::refused::DivideRefused;
 use crate::route::Route;
 use crate::strict::divide_piece;
 use rj_csv_io::{Input, Output};
-use rj_strict::reads_records;
 use std::alloc::Global;
 
 /// The state of a text that is being divided.
@@ -66,7 +65,6 @@ fn divide_next<I: Input, O: Output, R: Route>(
     ensures refusal { IfErr result (λ e. (b : BuildRefused) → table_begun division.now ≡ Err b → rest.old.rows ≡ 0 → IsHeaderRefusal b e) }
     ensures untouched { (b : BuildRefused) → table_begun division.now ≡ Err b → outputs.new ≡ outputs.old }
 {
-    reads_records();
     let delimiter = division.delimiter;
     let _byte = delimiter.byte();
     let piece = match next_piece(input, &mut rest.bytes, delimiter, block) {

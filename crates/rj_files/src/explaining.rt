@@ -2,16 +2,14 @@
 
 ghost use Rattle.std.specs.Prelude.{◌≡◌, ◌≢◌, ◌↔◌, ◌<◌, ◌++◌, Bool, codes, IfErr, IfOk, IsTrue, None, Ok, false, map, nat_eq, option_map, string_bytes, true};
 ghost use Rattle.std.specs.IoError.{error_kind};
-ghost use Rattle.std.specs.List.{filter_map, starts_with};
+ghost use Rattle.std.specs.List.{starts_with};
 ghost use Rattle.std.specs.Option.{IsSomeAnd};
 ghost use Rattle.rj_command.specs.Sides.{delimiter_of, nulls_of};
 ghost use Rattle.rj_csv_io.specs.Typed.{null_texts};
 ghost use Rattle.rj_explain.specs.Explained.{file_of};
 ghost use Rattle.rj_explain.specs.Listed.{AreWordsTold};
 ghost use Rattle.rj_line.specs.Line.{IsLineFault, IsLineOf};
-ghost use Rattle.rj_line.specs.Options.{OptionWords, option_rules};
-ghost use Rattle.rj_line.specs.declared.form.Form.{Form};
-ghost use Rattle.rj_files.specs.Asking.{are_quiet, ask_for_lines, has_word, is_quiet, letters, options_in};
+ghost use Rattle.rj_files.specs.Asking.{are_quiet, ask_for_lines, has_word, is_quiet, options_in};
 ghost use Rattle.rj_files.specs.Entries.{entry_for, is_entry_for};
 ghost use Rattle.rj_files.specs.Explained.{IsPlaceExplained, IsToldOf, IsUndeclaredTold, IsUnexpectedTold, IsViolationTold, undeclared_line};
 ghost use Rattle.rj_files.specs.Texts.{unkept_lines};
@@ -62,12 +60,6 @@ fn is_quiet(word: &str) -> bool
         || begins_with(word, "-qh")
         || begins_with(word, "-qV")
 }
-
-/// The letters that may stand behind `-q` are those of all options of a line, of help and of the
-/// version. The function does nothing; its contract is a theorem.
-pub fn letters_are_of_options()
-    ensures { (form : Form) (by_word : Bool) (words : OptionWords) → filter_map (λ r. r.short) (option_rules form by_word words) ++ codes "hV" ≡ letters }
-{}
 
 // Whether one of the words does.
 fn are_quiet(words: &[&str]) -> bool

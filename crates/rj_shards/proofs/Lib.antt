@@ -7,6 +7,7 @@ pub mod Extended
 pub mod Found
 pub mod JoinedPieces
 pub mod KeptPairs
+pub mod LawFacts
 pub mod LeftOrder
 pub mod LoneCounts
 pub mod LoneRows

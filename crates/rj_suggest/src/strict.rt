@@ -13,7 +13,7 @@ use crate::suggest_listed;
 use crate::suggestion::{ListedColumns, Suggestion};
 use rj_csv_io::InputFormat;
 use rj_fault::Fault;
-use rj_strict::{Header, StrictFault, above_fault, check, quote_empty_lines, reads_quoted_records};
+use rj_strict::{Header, StrictFault, above_fault, check, quote_empty_lines};
 use std::alloc::Global;
 
 /// Why a file suggests nothing if its text has to be of RFC 4180's grammar.
@@ -40,7 +40,6 @@ fn suggest_derived(
     ensures fault { (full : Bool) (file : File) → Derives format.now.delimiter First full (body_of First text.now) file
         → IfErr result (λ f. f ≢ Fault.Memory → IsFaultOf (records_of file) (null_texts format.now.nulls.now) f) }
 {
-    reads_quoted_records();
     let _byte = format.delimiter.byte();
     let quoted = quote_empty_lines(alloc, text, format.delimiter)?;
     suggest_listed(alloc, quoted.as_slice(), format, listed)

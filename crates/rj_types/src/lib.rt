@@ -5,6 +5,7 @@
 mod columns;
 mod entry;
 mod label;
+mod laws;
 mod list;
 mod name;
 mod number;
@@ -13,5 +14,6 @@ mod word;
 
 pub use columns::{is_named_in, is_open, name_fault, types_under, with_shared, with_texts};
 pub use entry::{Label, TypeEntry};
-pub use list::{one_list, read_list, read_shared_list};
+pub use laws::one_list;
+pub use list::{read_list, read_shared_list};
 pub use selected::read_selected;

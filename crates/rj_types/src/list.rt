@@ -1,5 +1,4 @@
-//! Reading a type list. A function without a body is a law: its contract is a theorem about all
-//! texts.
+//! Reading a type list.
 
 ghost use Rattle.std.specs.Prelude.{◌≡◌, ◌&&◌, true, IfOk, List, ℕ, Option, MatchOption, Some};
 ghost use Rattle.std.specs.List.{count_by, list_all};
@@ -136,8 +135,3 @@ pub fn read_shared_list(alloc: Global, text: &str) -> Result<Option<Vec<TypeEntr
         None => Ok(None),
     }
 }
-
-/// A text is at most one list of types. So what [`read_list`] returns is the list.
-pub fn one_list()
-    ensures { (text : List ℕ) (a b : List TypeEntry) → IsTypeList text a → IsTypeList text b → a ≡ b }
-{}

@@ -11,7 +11,7 @@ ghost use Rattle.shards.specs.Heads.{Continues, HasNoFeed, IsFeed, IsFirstLine, 
 use crate::head::Head;
 use rj_command::{Fault, Side, fault_of_text};
 use rj_csv_io::{Header, without_bom};
-use rj_strict::{Delimiter, check, quote_empty_lines, reads_quoted_records};
+use rj_strict::{Delimiter, check, quote_empty_lines};
 use std::alloc::{AllocError, Global};
 
 // Where the first line of a text ends, if it does: after the first line feed outside quotes. Each
@@ -53,7 +53,6 @@ fn header_of(alloc: Global, line: &[u8], side: Side, delimiter: Delimiter) -> Re
     ensures fault { IfErr result (λ f. f ≢ Fault.Memory → (f ≡ Fault.NoHeader side) × ((full : Bool) (file : File)
         → Derives delimiter First full (body_of First line.now) file → records_of file ≡ [])) }
 {
-    reads_quoted_records();
     let _byte = delimiter.byte();
     let Ok(quoted) = quote_empty_lines(alloc, line, delimiter) else {
         return Err(Fault::Memory);

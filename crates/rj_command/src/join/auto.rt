@@ -24,12 +24,12 @@ use crate::join::undeclared::{is_open, is_undeclared};
 use rj_columns::{ColumnType, Table};
 use rj_condition::{
     BindRefused, BoundJoin, Clause, Columns, Name, ParseRefused, Word, bind, first_undeclared,
-    one_clause, parse,
+    parse,
 };
 use rj_csv_io::{Header, InputFormat, ReadRefused, without_bom};
 use rj_fault::Side;
 use rj_line::{Request, Strictness};
-use rj_strict::{Header as Grammar, check, quote_empty_lines, reads_quoted_records};
+use rj_strict::{Header as Grammar, check, quote_empty_lines};
 use rj_suggest::suggested_kinds;
 use rj_types::{Label, TypeEntry, is_open as says_not_all};
 use std::alloc::{AllocError, Global};
@@ -68,7 +68,6 @@ fn kinds_of_strict_text(
         ((kinds : List ColumnType) → AreStrictKinds full request.now side text.now kinds → ⊥)
         (λ v. AreStrictKinds full request.now side text.now v.items)) }
 {
-    reads_quoted_records();
     let delimiter = delimiter_of(request, side);
     if check(text, delimiter, Grammar::First, full).is_err() {
         return Ok(None);
@@ -397,7 +396,6 @@ fn is_bound(
     ensures bound { IfOk result (λ b. b ≡ true → IsBound left.now right.now request.now) }
     ensures unbound { IfOk result (λ b. b ≡ false → IsBound left.now right.now request.now → ⊥) }
 {
-    one_clause();
     let Some(clause) = clause_of(alloc, request.clause)? else {
         return Ok(false);
     };

@@ -16,8 +16,7 @@ use rj_csv_io::{InputFormat, read_table_in_parts, without_bom};
 use rj_fault::{Fault, Side, fault_of_read};
 use rj_line::Request;
 use rj_strict::{
-    Delimiter, Header, StrictFault, above_fault, check, derived_with_header, is_derived_in_parts,
-    one_derivation, quote_empty_lines, reads_all_records, reads_quoted_records,
+    Delimiter, Header, StrictFault, above_fault, check, is_derived_in_parts, quote_empty_lines,
 };
 use std::alloc::Global;
 use std::thread::Threads;
@@ -111,7 +110,6 @@ fn read_quoted<R: Threads + Sync>(
         → IsReading request.now side (records_of file) result }
     ensures lawful { OnOk result (IsTrue (is_null_text request.now.out_null.now)) }
 {
-    reads_quoted_records();
     let Ok(quoted) = quote_empty_lines(alloc, text, delimiter_of(request, side)) else {
         return Err(Fault::Memory);
     };
@@ -143,9 +141,6 @@ fn read_lines<R: Threads + Sync>(
     ensures { (file : File) → Derives (delimiter_of request.now side) First true (body_of First text.now) file
         → IsReading request.now side (records_of file) result }
 {
-    one_derivation();
-    reads_all_records();
-    derived_with_header();
     let look = Look {
         delimiter: delimiter_of(request, side),
         parts: request.settings.workers as usize,
@@ -178,8 +173,6 @@ pub fn read_strictly<R: Threads + Sync>(
     ensures fault { IfErr result (λ f. f ≢ Fault.Memory → IsStrictFault full request.now side text.now f) }
     ensures lawful { OnOk result (IsTrue (is_null_text request.now.out_null.now)) }
 {
-    reads_all_records();
-    derived_with_header();
     let delimiter = delimiter_of(request, side);
     let look = Look {
         delimiter,

@@ -6,6 +6,7 @@ use Rattle.rj_divide.specs.Divisions.{IsDivided, IsPartlyDivided, after_rows, di
 use Rattle.rj_divide.specs.Readings.{IsFaultBehind}
 use Rattle.rj_strict.specs.Grammar.{may_delimit}
 use Rattle.rj_strict.specs.declared.header.Header.TheVariants.{Above}
+use Rattle.rj_strict.proofs.LawFacts.{reads_all_records}
 use Rattle.rj_divide.proofs.strict.divide_derived.Goals as goal
 
 pub returns-then-division-gt1-clause-divided : goal.returns-then-division-gt1-clause-divided
@@ -15,7 +16,7 @@ returns-then-division-gt1-clause-divided g c =
     let may = subst (λ (x : ℕ). may_delimit x ≡ true) c.byte-byte.ensures.value c.byte-byte.ensures.lawful in
     IfOk-weaker c.divide_records.result _ _ (λ n told full file derived.
     subst (λ (x : List (List (List ℕ))). IsDivided (after_rows c.args.before (dividing g.W.Route.part d)) x (map g.O.Output.told c.args.outputs.now) (map g.O.Output.told c.divide_records.new.outputs) n)
-    (c.reads_all_records.ensures d.delimiter (Above (length d.types.now)) full c.args.text.now file may derived many) told) c.divide_records.ensures.divided
+    (reads_all_records d.delimiter (Above (length d.types.now)) full c.args.text.now file may derived many) told) c.divide_records.ensures.divided
 
 pub returns-then-division-gt1-clause-fault : goal.returns-then-division-gt1-clause-fault
 returns-then-division-gt1-clause-fault g c =
@@ -24,7 +25,7 @@ returns-then-division-gt1-clause-fault g c =
     let may = subst (λ (x : ℕ). may_delimit x ≡ true) c.byte-byte.ensures.value c.byte-byte.ensures.lawful in
     IfErr-weaker c.divide_records.result _ _ (λ e told t full file begins derived.
     subst (λ (x : List (List (List ℕ))). IsFaultBehind (dividing g.W.Route.part d) c.args.before (length c.args.outputs.now) x e)
-    (c.reads_all_records.ensures d.delimiter (Above (length d.types.now)) full c.args.text.now file may derived many) (told t begins)) c.divide_records.ensures.fault
+    (reads_all_records d.delimiter (Above (length d.types.now)) full c.args.text.now file may derived many) (told t begins)) c.divide_records.ensures.fault
 
 pub quote_below_name-requires : goal.quote_below_name-requires
 quote_below_name-requires g c = (length c.args.division.now.types.now, c.requires.derived.0, c.requires.derived.1, omega arith, c.requires.derived.2)
@@ -52,7 +53,7 @@ returns-then-division-gt1-clause-partly g c =
     let may = subst (λ (x : ℕ). may_delimit x ≡ true) c.byte-byte.ensures.value c.byte-byte.ensures.lawful in
     IfErr-weaker c.divide_records.result _ _ (λ e told full file derived.
     subst (λ (x : List (List (List ℕ))). IsPartlyDivided (after_rows c.args.before (dividing g.W.Route.part d)) x (map g.O.Output.told c.args.outputs.now) (map g.O.Output.told c.divide_records.new.outputs) e)
-    (c.reads_all_records.ensures d.delimiter (Above (length d.types.now)) full c.args.text.now file may derived many) told) c.divide_records.ensures.partly
+    (reads_all_records d.delimiter (Above (length d.types.now)) full c.args.text.now file may derived many) told) c.divide_records.ensures.partly
 
 pub returns-clause-partly : goal.returns-clause-partly
 returns-clause-partly g c =

@@ -5,6 +5,7 @@ use Rattle.rj_strict.specs.Grammar.{Derives, may_delimit}
 use Rattle.rj_strict.specs.Joined.{joined}
 use Rattle.rj_strict.specs.Reading.{config_of}
 use Rattle.rj_strict.specs.declared.header.Header.TheVariants.{First}
+use Rattle.rj_strict.proofs.LawFacts.{joined_texts, reads_quoted_records}
 use Rattle.rj_divide.proofs.BlockFacts.{name-derived, name_file, under-one, unmarked}
 use Rattle.rj_divide.proofs.strict.quote_below_name.Goals as goal
 
@@ -16,7 +17,7 @@ quote_empty_lines-requires c =
     let d = c.requires in
     let by = c.args.delimiter in
     let may = subst (λ (x : ℕ). may_delimit x ≡ true) c.byte-byte.ensures.value c.byte-byte.ensures.lawful in
-    let whole = c.joined_texts.ensures by First d.1 (120 ∷ 10 ∷ []) text name_file d.2 may (name-derived by may) (lit< tt) (under-one by d.0 d.1 text d.2 d.3 d.4) in
+    let whole = joined_texts by First d.1 (120 ∷ 10 ∷ []) text name_file d.2 may (name-derived by may) (lit< tt) (under-one by d.0 d.1 text d.2 d.3 d.4) in
     (d.1, joined name_file d.2, subst (λ (x : List ℕ). Derives by First d.1 x (joined name_file d.2)) (sym (ap strip_bom is ∙ unmarked text)) whole)
 
 pub returns : goal.returns
@@ -27,7 +28,7 @@ returns c =
     let by = c.args.delimiter in
     let may = subst (λ (x : ℕ). may_delimit x ≡ true) c.byte-byte.ensures.value c.byte-byte.ensures.lawful in
     IfOk-weaker c.quote_empty_lines.result _ _ (λ v told names full file low d.
-    let whole = c.joined_texts.ensures by First full (120 ∷ 10 ∷ []) text name_file file may (name-derived by may) (lit< tt) (under-one by names full text file low d) in
+    let whole = joined_texts by First full (120 ∷ 10 ∷ []) text name_file file may (name-derived by may) (lit< tt) (under-one by names full text file low d) in
     let quoted = told full (joined name_file file) (subst (λ (x : List ℕ). Derives by First full x (joined name_file file)) (sym (ap strip_bom is ∙ unmarked text)) whole) in
-    ap (λ (x : List ℕ). drop 1 (records (config_of by) x)) quoted ∙ ap (λ (x : List (List (List ℕ))). drop 1 x) (c.reads_quoted_records.ensures by First full (120 ∷ 10 ∷ text) (joined name_file file) may whole))
+    ap (λ (x : List ℕ). drop 1 (records (config_of by) x)) quoted ∙ ap (λ (x : List (List (List ℕ))). drop 1 x) (reads_quoted_records by First full (120 ∷ 10 ∷ text) (joined name_file file) may whole))
     c.quote_empty_lines.ensures

@@ -12,6 +12,7 @@ use Rattle.rj_divide.proofs.DivisionFacts.{piece-reads}
 use Rattle.rj_divide.proofs.ReadingFacts.{input-fault}
 use Rattle.rj_divide.proofs.UnderwayFacts.{fault-in, finish, first-kept, first-more, go-on}
 use Rattle.rj_strict.specs.Grammar.{may_delimit}
+use Rattle.rj_strict.proofs.LawFacts.{reads_records}
 use Rattle.rj_divide.proofs.whole.divide_next.Goals as goal
 
 pub returns-clause-more : goal.returns-clause-more
@@ -64,7 +65,7 @@ returns-in-Err-divide_piece-clause-fault g c = λ t how begin n b u.
     let ends : p.is_last ≡ true → (p.end ≡ length bytes) × IsAtEnd (g.I.Input.tells c.next_piece.new.input) =
     λ e. let end = c.in-Ok.ensures.last e in let all : p.end ≡ length bytes = search (rules, end.0) in (all, end.1) in
     fault-in d how begin c.args.rest.now bytes (g.I.Input.tells c.args.input.now) (g.I.Input.tells c.next_piece.new.input) (map g.O.Output.told c.args.outputs.now) n p.end p.is_last u
-    c.in-Ok.ensures.bytes ends c.in-Ok.ensures.records may (λ header whole text file derived. c.reads_records.ensures d.delimiter header whole text file may derived) c.args.block outputs c.in-Err-divide_piece.refused c.in-Ok.ensures.read
+    c.in-Ok.ensures.bytes ends c.in-Ok.ensures.records may (λ header whole text file derived. reads_records d.delimiter header whole text file may derived) c.args.block outputs c.in-Err-divide_piece.refused c.in-Ok.ensures.read
     (elim (cases_Bool p.is_last) [ inl is ↦ inl is | inr is ↦ inr (is, within, c.in-Ok.ensures.line is) ])
     (subst (λ (t : List ℕ). IsPieceFault d (reading_of_piece c.args.rest.now.reading p.is_last) (take p.end t) c.args.rest.now.rows outputs c.in-Err-divide_piece.refused) c.deref.ensures.value piece)
 

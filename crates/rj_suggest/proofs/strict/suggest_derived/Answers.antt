@@ -4,6 +4,7 @@ use Rattle.rj_csv_io.specs.Typed.{null_texts}
 use Rattle.rj_fault.specs.declared.fault.Fault.TheVariants.{Memory}
 use Rattle.rj_strict.specs.Grammar.{may_delimit}
 use Rattle.rj_strict.specs.declared.header.Header.TheVariants.{First}
+use Rattle.rj_strict.proofs.LawFacts.{reads_quoted_records}
 use Rattle.rj_suggest.specs.Keys.{IsListingOf}
 use Rattle.rj_suggest.specs.Suggested.{IsFaultOf}
 use Rattle.rj_suggest.proofs.StrictFacts.{records-quoted}
@@ -14,7 +15,7 @@ returns-clause-suggestion c = λ full file d.
     let by = c.args.format.now.delimiter in
     let lawful = subst (λ (n : ℕ). may_delimit n ≡ true) c.byte-byte.ensures.value c.byte-byte.ensures.lawful in
     let same = records-quoted by file c.as_slice.result.now c.in_ok-quoted.quoted.items c.as_slice.ensures.value (c.in_ok-quoted.ensures full file d)
-    (c.reads_quoted_records.ensures by First full (strip_bom c.args.text.now) file lawful d) in
+    (reads_quoted_records by First full (strip_bom c.args.text.now) file lawful d) in
     let P : List (List (List ℕ)) → Type 0 = λ rs. IfOk c.suggest_listed.result (IsListingOf c.args.listed rs (null_texts c.args.format.now.nulls.now)) in
     subst P same c.suggest_listed.ensures.suggestion
 
@@ -23,6 +24,6 @@ returns-clause-fault c = λ full file d.
     let by = c.args.format.now.delimiter in
     let lawful = subst (λ (n : ℕ). may_delimit n ≡ true) c.byte-byte.ensures.value c.byte-byte.ensures.lawful in
     let same = records-quoted by file c.as_slice.result.now c.in_ok-quoted.quoted.items c.as_slice.ensures.value (c.in_ok-quoted.ensures full file d)
-    (c.reads_quoted_records.ensures by First full (strip_bom c.args.text.now) file lawful d) in
+    (reads_quoted_records by First full (strip_bom c.args.text.now) file lawful d) in
     let P : List (List (List ℕ)) → Type 0 = λ rs. IfErr c.suggest_listed.result (λ f. f ≢ Memory → IsFaultOf rs (null_texts c.args.format.now.nulls.now) f) in
     subst P same c.suggest_listed.ensures.fault

@@ -1,5 +1,5 @@
 use Rattle.rj_suggest.proofs.ReadTypes.{lines_list, no_fault, own_types}
-use Rattle.rj_suggest.proofs.writing.lines_are_read_back.Goals as goal
+use Rattle.rj_suggest.proofs.laws.lines_are_read_back.Goals as goal
 
 pub returns-clause-list : goal.returns-clause-list
 returns-clause-list c = lines_list
