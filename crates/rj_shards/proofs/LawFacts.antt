@@ -51,7 +51,7 @@ module _ {T : Type 0} (order : RowOrder) (text : List Content → T) (join : Bou
 
     -- no place is there more often than it has to be
     pub cut_within : (place : Place) → StandsTooOften (copied_rows inputs) place → ⊥
-    cut_within = cut_merge.within
+    cut_within = let m = cut_merge in m.within
 
   -- whole shards
   module _ (lists : List (List (Placed T))) (shards : AreShards order text join l r lists) where
@@ -86,4 +86,4 @@ module _ {T : Type 0} (order : RowOrder) (text : List Content → T) (join : Bou
 
     -- no two rows have one place
     pub whole_apart : (place : Place) → HasTwice (flat_map (λ rows. rows) lists) place → ⊥
-    whole_apart = not_twice (flat_map (λ rows. rows) lists) whole whole_merge.all (whole_rises order text join l r)
+    whole_apart = let m = whole_merge in not_twice (flat_map (λ rows. rows) lists) whole m.all (whole_rises order text join l r)

@@ -1,6 +1,6 @@
 -- What lists that are posted bit by bit have left.
 use Rattle.std.proofs.Common.{◌≡◌, ℕ, ◌+◌, ◌<◌, ◌≤◌, ◌⊎◌, inl, inr, List, [], ◌∷◌, ◌++◌, length, get_or, set, length-set, sym, refl, ap, ◌∙◌, subst, arith, get_or-set_same, get_or-set_other}
-use Rattle.std.proofs.Common.{length-append, lt_of_not-le, Option, None, Some, slice_get, true, zero, suc}
+use Rattle.std.proofs.Common.{length-append, lt_of_not-le, Option, None, Some, true, zero, suc}
 use Rattle.std.proofs.lemmas.List.{get_or_at, get_or_append_left, nil_from_length}
 use Rattle.std.proofs.lemmas.List.Elements.{All-contains, Contains-append_left, Contains-push, Contains-push_cases}
 use Rattle.std.specs.Prelude.{Contains, option_to_list, is_some, not, vec_len, ◌==◌}
