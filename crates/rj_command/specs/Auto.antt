@@ -106,6 +106,10 @@ pub record HasFurther (q p : Request) (lefts rights : List TypeEntry) : Type 0 w
   pub right_types : p.right_types.items ≡ q.right_types.items ++ rights
   pub same : record p { left_types = q.left_types; right_types = q.right_types } ≡ q
 
+-- the same request, with some entries behind its lists
+abbrev pub HasSomeFurther : Request → Request → Type 0
+HasSomeFurther q p = (lefts rights : List TypeEntry) × HasFurther q p lefts rights
+
 -- its clause is bound to both headers
 abbrev pub IsBound : List ℕ → List ℕ → Request → Type 0
 IsBound left right q = (l r : TableValue) × AreHeaders left right q l r × ((join : BoundJoin) × IsJoinOf q.clause.now l r join)

@@ -1,6 +1,6 @@
 //! The types that a request takes from cells.
 
-ghost use Rattle.std.specs.Prelude.{◌≡◌, ◌≢◌, ◌<◌, ◌∷◌, ◌++◌, [], ℕ, false, true, is_some, length, IfOk, IsErr, IsTrue, List, MatchOption, Ok, OnOk, Some, replicate, slice_get, take};
+ghost use Rattle.std.specs.Prelude.{◌≡◌, ◌≢◌, ◌<◌, ◌∷◌, ◌++◌, [], ℕ, false, true, is_some, length, IfOk, IsErr, IsTrue, List, MatchOption, MatchResult, Ok, OnOk, Some, replicate, slice_get, take};
 ghost use Rattle.std.specs.Option.{option_to_list};
 ghost use Rattle.csv.specs.Reading.{records, strip_bom};
 ghost use Rattle.rj_columns.specs.Names.{empty_table};
@@ -14,7 +14,7 @@ ghost use Rattle.rj_condition.specs.declared.tree.Clause.{Clause};
 ghost use Rattle.rj_strict.specs.Reading.{config_of};
 ghost use Rattle.rj_types.specs.declared.entry.TypeEntry.{TypeEntry};
 ghost use Rattle.rj_command.specs.Auto as auto;
-ghost use Rattle.rj_command.specs.Auto.{AreKinds, AreKindsIn, AreStrictKinds, AreSuggestedEntries, HasFurther, IsBound, IsCompleted, IsNumberTable, TakesTypes, entries_from, entry_at, entry_for, table_of};
+ghost use Rattle.rj_command.specs.Auto.{AreKinds, AreKindsIn, AreStrictKinds, AreSuggestedEntries, HasFurther, HasSomeFurther, IsBound, IsCompleted, IsNumberTable, TakesTypes, entries_from, entry_at, entry_for, table_of};
 ghost use Rattle.rj_command.specs.Sides.{delimiter_of, has_lawful_nulls, nulls_of};
 
 use crate::join::headers::header_table;
@@ -413,9 +413,10 @@ fn is_bound(
     }
 }
 
-// Puts entries behind the lists of a request.
+// Puts entries behind the lists of a request. If memory runs out, only some may be there.
 fn add_entries(request: &mut Request<'_>, entries: Entries) -> Result<(), AllocError>
-    ensures { OnOk result (HasFurther request.old request.new entries.left.items entries.right.items) }
+    ensures all { OnOk result (HasFurther request.old request.new entries.left.items entries.right.items) }
+    ensures some { HasSomeFurther request.old request.new }
 {
     let Entries {
         mut left,
@@ -424,6 +425,24 @@ fn add_entries(request: &mut Request<'_>, entries: Entries) -> Result<(), AllocE
     request.left_types.append(&mut left)?;
     request.right_types.append(&mut right)?;
     Ok(())
+}
+
+// Puts entries behind the lists of a request. Returns whether its clause is bound by them.
+fn binds_with(
+    alloc: Global,
+    left: &[u8],
+    right: &[u8],
+    request: &mut Request<'_>,
+    entries: Entries,
+) -> Result<bool, AllocError>
+    requires { IsTrue (has_lawful_nulls request.old) }
+    ensures bound { IfOk result (λ b. b ≡ true → IsBound left.now right.now request.new) }
+    ensures unbound { IfOk result (λ b. b ≡ false → IsBound left.now right.now request.new → ⊥) }
+    ensures all { OnOk result (HasFurther request.old request.new entries.left.items entries.right.items) }
+    ensures some { HasSomeFurther request.old request.new }
+{
+    add_entries(request, entries)?;
+    is_bound(alloc, left, right, request)
 }
 
 // Takes the entries behind so many of each list away.
@@ -443,7 +462,7 @@ fn take_suggested(
     right: &[u8],
     request: &mut Request<'_>,
 ) -> Result<(), AllocError>
-    ensures { OnOk result (TakesTypes left.now right.now request.old request.new) }
+    ensures { MatchResult result (λ _. TakesTypes left.now right.now request.old request.new) (λ _. HasFurther request.old request.new [] []) }
 {
     if !has_lawful_nulls(request) {
         return Ok(());
@@ -453,12 +472,17 @@ fn take_suggested(
     };
     let lefts = request.left_types.as_slice().len();
     let rights = request.right_types.as_slice().len();
-    add_entries(request, entries)?;
-    if is_bound(alloc, left, right, request)? {
-        return Ok(());
+    match binds_with(alloc, left, right, request, entries) {
+        Ok(true) => Ok(()),
+        Ok(false) => {
+            cut_entries(request, lefts, rights);
+            Ok(())
+        }
+        Err(e) => {
+            cut_entries(request, lefts, rights);
+            Err(e)
+        }
     }
-    cut_entries(request, lefts, rights);
-    Ok(())
 }
 
 /// Completes the lists of a request that takes types from cells: behind its own entries come those
@@ -470,14 +494,14 @@ fn take_suggested(
 ///
 /// # Errors
 ///
-/// It fails only when memory runs out. Then some of the entries may be there.
+/// It fails only when memory runs out. The lists then have their own entries alone.
 pub fn complete_types(
     alloc: Global,
     left: &[u8],
     right: &[u8],
     request: &mut Request<'_>,
 ) -> Result<(), AllocError>
-    ensures { OnOk result (IsCompleted left.now right.now request.old request.new) }
+    ensures { MatchResult result (λ _. IsCompleted left.now right.now request.old request.new) (λ _. HasFurther request.old request.new [] []) }
 {
     if !request.auto_types {
         return Ok(());
