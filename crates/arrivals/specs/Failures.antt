@@ -2,7 +2,7 @@
 use Rattle.std.specs.Prelude.{◌≡◌, ◌⊎◌, ℕ, Bool, true, false, List, codes, Option, None, Some, Result, Ok, Err}
 use Rattle.clap.specs.Values.{kind_of}
 use Rattle.clap.specs.declared.error.Error.{Error}
-use Rattle.rj_fault.specs.Faults.{IsAskedFor, refused_status}
+use Rattle.rj_line.specs.Faults.{IsAskedFor, refused_status}
 use Rattle.arrivals.specs.declared.failure.Failure.{Failure}
 use Rattle.arrivals.specs.declared.failure.Failure.TheVariants as failure
 

@@ -10,7 +10,7 @@ use Rattle.clap.specs.declared.error.kind.ErrorKind.TheVariants.{OutOfMemory}
 use Rattle.arrivals.specs.declared.failure.Failure.{Failure}
 use Rattle.arrivals.specs.declared.failure.Failure.TheVariants as failure
 use Rattle.arrivals.specs.declared.line.Line.{Line}
-use Rattle.rj_script.specs.Script.{number_of}
+use Rattle.rj_line.specs.Script.{number_of}
 
 -- a required option whose number is from the least to the most
 abbrev pub number_rule : Text → ℕ → ℕ → Rule

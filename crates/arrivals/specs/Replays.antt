@@ -6,8 +6,8 @@ use Rattle.arrivals.specs.Lines.{IsLineFailure, IsReplayLine}
 use Rattle.arrivals.specs.declared.failure.Failure.{Failure}
 use Rattle.arrivals.specs.declared.failure.Failure.TheVariants as failure
 use Rattle.arrivals.specs.declared.line.Line.{Line}
-use Rattle.rj_script.specs.Report.{printed}
-use Rattle.rj_script.specs.Script.{are_readable, readings}
+use Rattle.rj_line.specs.Report.{printed}
+use Rattle.rj_line.specs.Script.{are_readable, readings}
 
 -- the line of the words is printed of the script, if that is told, and whether each line of the
 -- script is readable

@@ -3,7 +3,7 @@
 ghost use Rattle.std.specs.Prelude.{◌≡◌};
 
 use clap::Error;
-use rj_fault::ExitReason;
+use rj_line::fault::ExitReason;
 use std::alloc::AllocError;
 use std::fmt;
 

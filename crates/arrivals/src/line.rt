@@ -7,7 +7,7 @@ ghost use Rattle.arrivals.specs.Lines.{IsLineBy, IsLineFailure, IsReplayLine, li
 
 use crate::failure::Failure;
 use clap::{Arg, ArgAction, ArgMatches, Command, value_parser};
-use rj_fault::VERSION;
+use rj_line::fault::VERSION;
 use std::alloc::{AllocError, Global};
 
 // What `--help` prints.

@@ -12,7 +12,7 @@ mod replaying;
 use crate::failure::Failure;
 use crate::replaying::replay;
 use rj_csv_io::{CountedReader, CountedWriter};
-use rj_fault::{read_words, tell, texts_of};
+use rj_line::fault::{read_words, tell, texts_of};
 use std::env::Env;
 use std::io;
 use std::process::ExitCode;

@@ -23,7 +23,7 @@ of_input files (refused.RepeatedPlace place) f is written = cc (is, written)
 pub output_failed : (files : List (List ℕ)) (e : MergeTextsRefused) (f : Failure) → IsOf files e f → f ≡ failure.WriteDevice → e ≡ texts_refused.WriteDevice
 output_failed files texts_refused.WriteDevice f is written = refl
 output_failed files (texts_refused.Merge e) f (inl is) written = absurd (of_input files e f is written)
-output_failed files (texts_refused.Merge e) f (inr is) written = cc (is, written)
+output_failed files (texts_refused.Merge e) f (inr is) written = cc (is.1, written)
 
 pub failed_output : (files : List (List ℕ)) (e : MergeTextsRefused) (f : Failure) → IsOf files e f → e ≡ texts_refused.WriteDevice → f ≡ failure.WriteDevice
 failed_output files texts_refused.WriteDevice f is written = is

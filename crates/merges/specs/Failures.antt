@@ -2,7 +2,7 @@
 use Rattle.std.specs.Prelude.{◌≡◌, ◌⊎◌, ℕ, List, ◌∷◌, ◌++◌, codes, decimal, Option, None, Some, Result, Ok, Err, string_bytes}
 use Rattle.clap.specs.Values.{kind_of}
 use Rattle.clap.specs.declared.error.Error.{Error}
-use Rattle.rj_fault.specs.Faults.{IsAskedFor, refused_status}
+use Rattle.rj_line.specs.Faults.{IsAskedFor, refused_status}
 use Rattle.merges.specs.declared.failure.Failure.{Failure}
 use Rattle.merges.specs.declared.failure.Failure.TheVariants as failure
 use Rattle.rj_merge.specs.declared.place.Place.{Place}

@@ -1,8 +1,9 @@
 -- The failure of a refused merge.
-use Rattle.std.specs.Prelude.{◌≡◌, ◌-◌, ◌⊎◌, ℕ, List, [], String, string_bytes, slice_index_or}
+use Rattle.std.specs.Prelude.{◌≡◌, ◌-◌, ◌⊎◌, ℕ, List, [], IsSome, String, string_bytes, slice_index_or}
 use Rattle.std.specs.declared.alloc.Global.{Global}
 use Rattle.merges.specs.declared.failure.Failure.{Failure}
 use Rattle.merges.specs.declared.failure.Failure.TheVariants as failure
+use Rattle.rj_merge.specs.Sources.{told_input}
 use Rattle.rj_merge.specs.declared.refused.MergeRefused.{MergeRefused}
 use Rattle.rj_merge.specs.declared.refused.MergeRefused.TheVariants as refused
 use Rattle.rj_merge.specs.declared.refused.MergeTextsRefused.{MergeTextsRefused}
@@ -25,7 +26,7 @@ IsOfMerge files (refused.NoPlace input row) f = IsOfFile files input (λ name. f
 IsOfMerge files (refused.NotInOrder input row) f = IsOfFile files input (λ name. failure.NotInOrder name row) f
 IsOfMerge files (refused.RepeatedPlace place) f = f ≡ failure.RepeatedPlace place
 
--- the same of a refusal, or memory ran out for the name
+-- the same of a refusal; or memory ran out for the name of the file, if the error is one of a file
 abbrev pub IsOf : List (List ℕ) → MergeTextsRefused → Failure → Type 0
 IsOf files texts_refused.WriteDevice f = f ≡ failure.WriteDevice
-IsOf files (texts_refused.Merge e) f = IsOfMerge files e f ⊎ (f ≡ failure.Memory)
+IsOf files (texts_refused.Merge e) f = IsOfMerge files e f ⊎ (IsSome (told_input e) × (f ≡ failure.Memory))

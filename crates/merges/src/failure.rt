@@ -1,12 +1,13 @@
 //! Why nothing, or not all, was merged.
 
-ghost use Rattle.std.specs.Prelude.{◌≡◌, ◌-◌, [], IfOk, map, slice_index_or, string_bytes};
+ghost use Rattle.std.specs.Prelude.{◌≡◌, ◌-◌, [], IfOk, IsSome, OnErr, map, slice_index_or, string_bytes};
 ghost use Rattle.std.specs.Fmt.{WritesOnOk};
 ghost use Rattle.merges.specs.Failures.{file_line, place_line, row_line};
 ghost use Rattle.merges.specs.Refusals.{IsOf, IsOfMerge};
+ghost use Rattle.rj_merge.specs.Sources.{told_input};
 
 use clap::Error;
-use rj_fault::ExitReason;
+use rj_line::fault::ExitReason;
 use rj_merge::{MergeRefused, MergeTextsRefused, Place};
 use std::alloc::{AllocError, Global};
 use std::fmt;
@@ -183,7 +184,7 @@ impl ExitReason for Failure {
 
 impl Failure {
     /// The failure of a refused merge of these files. It names the file of an error; it is `Memory`
-    /// if there is no memory for that.
+    /// if there is no memory for the name.
     pub fn of(alloc: Global, files: &[&str], refused: MergeTextsRefused) -> Failure
         ensures { IsOf (map (λ f. f.now) files.now) refused result }
     {
@@ -197,7 +198,8 @@ impl Failure {
     }
 
     fn of_merge(alloc: Global, files: &[&str], refused: MergeRefused) -> Result<Failure, AllocError>
-        ensures { IfOk result (IsOfMerge (map (λ f. f.now) files.now) refused) }
+        ensures failure { IfOk result (IsOfMerge (map (λ f. f.now) files.now) refused) }
+        ensures named { OnErr result (IsSome (told_input refused)) }
     {
         match refused {
             MergeRefused::Memory => Ok(Failure::Memory),

@@ -11,8 +11,8 @@ use crate::copies::read_copies;
 use crate::failure::Failure;
 use clap::{Arg, ArgAction, ArgMatches, Command, value_parser};
 use rj_csv_io::is_lawful_null;
-use rj_fault::VERSION;
 use rj_line::delimiter_of;
+use rj_line::fault::VERSION;
 use rj_merge::{Copies, MergeOptions, Place, RowOrder};
 use std::alloc::{AllocError, Global};
 

@@ -12,7 +12,7 @@ mod merging;
 use crate::failure::Failure;
 use crate::merging::merge_words;
 use rj_csv_io::CountedWriter;
-use rj_fault::{read_words, tell, texts_of};
+use rj_line::fault::{read_words, tell, texts_of};
 use rj_merge::Opener;
 use std::env::Env;
 use std::fs::{self, Files};

@@ -1,6 +1,7 @@
 //! Files that are merged as the words of the command line say.
 
-ghost use Rattle.std.specs.Prelude.{◌≡◌, ◌≢◌, ◌<◌, ◌+◌, ◌-◌, ◌^◌, Err, IfErr, OnOk, map, vec_len};
+ghost use Rattle.std.specs.Prelude.{◌≡◌, ◌≢◌, ◌<◌, ◌^◌, Err, IfErr, OnOk, map, vec_len};
+ghost use Rattle.rj_csv_io.specs.Devices.{after_failure};
 ghost use Rattle.merges.specs.Lines.{IsMergeLine};
 ghost use Rattle.merges.specs.Merges.{IsFailure, IsMergeOfWords, IsRefusalOfLine, names};
 ghost use Rattle.merges.specs.declared.failure.Failure.{Failure};
@@ -24,12 +25,11 @@ fn merge_line<P: Opener, O: Output>(
     requires some { 0 < vec_len line.now.files }
     requires few { vec_len line.now.files < 2 ^ 32 }
     requires copies { vec_len line.now.copies ≡ vec_len line.now.files }
-    requires failures { O.count output.old < 2 ^ 64 - 1 }
     ensures merge { OnOk result (ForNamed (P.opens opener.now) P.Reader.remaining (names line.now)
         (λ texts. GotMerge line.now.how line.now.copies.items texts (O.told output.old) (O.told output.new))) }
     ensures sound { OnOk result (ForNamed (P.opens opener.now) P.Reader.remaining (names line.now) (HaveNoFault line.now.how)) }
-    ensures refusal { IfErr result (IsRefusalOfLine (P.opens opener.now) P.Reader.remaining output.old output.new line.now) }
-    ensures device { result ≡ Err Failure.WriteDevice → O.count output.new ≡ O.count output.old + 1 }
+    ensures refusal { IfErr result (IsRefusalOfLine (P.opens opener.now) (P.shut opener.now) P.Reader.remaining O.told output.old output.new line.now) }
+    ensures device { result ≡ Err Failure.WriteDevice → O.count output.new ≡ after_failure (O.count output.old) }
     ensures kept { result ≢ Err Failure.WriteDevice → O.count output.new ≡ O.count output.old }
 {
     let files = line.files.as_slice();
@@ -53,18 +53,17 @@ fn merge_line<P: Opener, O: Output>(
 ///
 /// Those of [`parse_words`] and [`line_of`]; the output is unchanged then. Those of
 /// [`merge_named`], each with the name of its file. Rows may be put before an error of a row, of a
-/// place or of the machine is found.
+/// place or of the machine is found: the first ones of the merge.
 pub fn merge_words<P: Opener, O: Output>(
     alloc: Global,
     opener: &P,
     words: &[&str],
     output: &mut O,
 ) -> Result<(), Failure>
-    requires { O.count output.old < 2 ^ 64 - 1 }
     ensures merge { OnOk result (IsMergeOfWords (P.opens opener.now) P.Reader.remaining (map (λ w. w.now) words.now) (O.told output.old) (O.told output.new)) }
-    ensures failure { IfErr result (IsFailure (P.opens opener.now) P.Reader.remaining output.old output.new (map (λ w. w.now) words.now)) }
+    ensures failure { IfErr result (IsFailure (P.opens opener.now) (P.shut opener.now) P.Reader.remaining O.told output.old output.new (map (λ w. w.now) words.now)) }
     ensures unchanged { ((line : Line) → IsMergeLine (map (λ w. w.now) words.now) line → ⊥) → output.new ≡ output.old }
-    ensures device { result ≡ Err Failure.WriteDevice → O.count output.new ≡ O.count output.old + 1 }
+    ensures device { result ≡ Err Failure.WriteDevice → O.count output.new ≡ after_failure (O.count output.old) }
     ensures kept { result ≢ Err Failure.WriteDevice → O.count output.new ≡ O.count output.old }
 {
     let matches = match parse_words(alloc, words) {

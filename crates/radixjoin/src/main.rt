@@ -9,12 +9,12 @@ mod suggesting;
 use crate::stack::{PAGES, take_stack};
 use crate::suggesting::suggest;
 use rj_command::{Line, Stats, UnkeptRows};
-use rj_fault::{Fault, read_words, texts_of};
 use rj_files::{
     Asking, ExplainedFault, NamedStream, Progress, Terminals, Written, asking_of, processors,
     read_lists, read_words_of_line, refuse_inputs, tell_explained, tell_explained_alone,
     tell_texts, write_output,
 };
+use rj_line::fault::{Fault, read_words, texts_of};
 use rj_line::{Form, form_of};
 use std::env::Env;
 use std::fs::Files;

@@ -2,10 +2,10 @@
 
 use clap::{Arg, ArgAction, ArgMatches, Command, Error};
 use rj_csv_io::InputFormat;
-use rj_fault::Fault;
 use rj_files::{Asking, ExplainedFault, NamedStream, Suggesting, refuse_printed, write_suggested};
+use rj_line::fault::Fault;
+use rj_line::suggest::ListedColumns;
 use rj_line::{Strictness, delimiter_of};
-use rj_suggest::ListedColumns;
 use std::alloc::{AllocError, Global};
 use std::fs::Files;
 use std::io;

@@ -8,9 +8,9 @@ use Rattle.std.specs.Cmp.{Equal-is}
 use Rattle.std.specs.declared.cmp.Ordering.TheVariants.{Equal}
 use Rattle.std.proofs.lemmas.Slice.Eq.{bytes_eq-Decides}
 use Rattle.std.proofs.lemmas.Map.Text.{is_eq-slice_cmp}
-use Rattle.rj_decimal.specs.Numbers.{Number}
-use Rattle.rj_decimal.specs.Order.{ordered, are_same}
-use Rattle.rj_decimal.proofs.Laws.{ordered-equal, same-symmetric, same-whole}
+use Rattle.rj_columns.specs.Numbers.{Number}
+use Rattle.rj_columns.specs.NumberOrder.{ordered, are_same}
+use Rattle.rj_columns.proofs.NumberLaws.{ordered-equal, same-symmetric, same-whole}
 use Rattle.rj_columns.specs.Contents.{Content, nothing, whole, decimal, word}
 use Rattle.rj_columns.specs.Compare.{Comparand, absent, number, text, seen, order_of, are_one, compared, are_equal, is_null}
 

@@ -2,7 +2,7 @@
 use Rattle.std.proofs.Common.{◌<◌, ◌≤◌, ◌^◌, ℕ, zero, suc, ℤ, List, [], ◌∷◌, arith, lit<}
 use Rattle.std.specs.Prelude.{unsigned_abs}
 use Rattle.std.proofs.Math.Nat.{pow-le-pow_right}
-use Rattle.rj_decimal.specs.declared.numeric.NumericType.{NumericType}
+use Rattle.rj_columns.specs.declared.decimal.numeric.NumericType.{NumericType}
 use Rattle.rj_columns.specs.declared.cell.ColumnType.{ColumnType}
 use Rattle.rj_columns.specs.declared.cell.ColumnType.TheVariants.{Int, Num, Text}
 use Rattle.rj_columns.specs.Contents.{Content, nothing, whole, decimal, word, FitsType, IsInLimits}

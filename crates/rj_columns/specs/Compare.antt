@@ -5,8 +5,8 @@ use Rattle.std.specs.Str.{bytes_eq}
 use Rattle.std.specs.declared.cmp.Ordering.{Ordering}
 use Rattle.std.specs.Ordering.{nat_cmp}
 use Rattle.std.specs.Cmp.Lexicographic.{slice_cmp}
-use Rattle.rj_decimal.specs.Numbers.{Number, number_of, whole_number}
-use Rattle.rj_decimal.specs.Order.{ordered, are_same}
+use Rattle.rj_columns.specs.Numbers.{Number, number_of, whole_number}
+use Rattle.rj_columns.specs.NumberOrder.{ordered, are_same}
 use Rattle.rj_columns.specs.declared.comparison.Value.{Value}
 use Rattle.rj_columns.specs.declared.comparison.Value.TheVariants as value
 use Rattle.rj_columns.specs.Contents.{Content, nothing, whole, decimal, word, IsInLimits}

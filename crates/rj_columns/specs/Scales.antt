@@ -1,6 +1,6 @@
 -- Cells in a scale, and the first of two that is not NULL.
 use Rattle.std.specs.Prelude.{ℕ, ◌-◌, ◌≤◌, ◌==◌, if◌then◌else◌}
-use Rattle.rj_decimal.specs.Numbers.{finer}
+use Rattle.rj_columns.specs.Numbers.{finer}
 use Rattle.rj_columns.specs.Contents.{Content, nothing, whole, decimal, word}
 
 -- the same number with this many digits after the point; a whole number stays one if there are none

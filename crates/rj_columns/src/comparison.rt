@@ -5,7 +5,7 @@ ghost use Rattle.rj_columns.specs.Contents.{content_of, IsInLimits};
 ghost use Rattle.rj_columns.specs.Compare.{compared, are_equal, comparand_of, is_null, order_of, seen, AreComparable, AreOneKind};
 
 use crate::cell::{Cell, narrow};
-use rj_decimal::Decimal;
+use crate::decimal::Decimal;
 use std::cmp::Ordering;
 
 // A cell as a comparison sees it.
@@ -48,7 +48,7 @@ pub fn compare(left: Cell<'_>, right: Cell<'_>) -> Option<Ordering>
         Value::Null => None,
         Value::Number(m) => match value_of(right) {
             Value::Null => None,
-            Value::Number(n) => Some(rj_decimal::compare(m, n)),
+            Value::Number(n) => Some(crate::decimal::compare(m, n)),
             Value::Text(_) => unreachable!(),
         },
         Value::Text(s) => match value_of(right) {
@@ -71,7 +71,7 @@ pub fn are_equal_cells(left: Cell<'_>, right: Cell<'_>) -> bool
     match value_of(left) {
         Value::Null => false,
         Value::Number(m) => match value_of(right) {
-            Value::Number(n) => rj_decimal::compare(m, n) == Ordering::Equal,
+            Value::Number(n) => crate::decimal::compare(m, n) == Ordering::Equal,
             Value::Null | Value::Text(_) => false,
         },
         Value::Text(s) => match value_of(right) {

@@ -6,8 +6,8 @@ ghost use Rattle.rj_columns.specs.Compare.{are_equal};
 ghost use Rattle.rj_columns.specs.Contents.{nothing};
 ghost use Rattle.rj_columns.specs.Stores.{decimal_content, number_content, text_content};
 
+use crate::decimal::{Decimal, compare};
 use crate::ints::Ints;
-use rj_decimal::{Decimal, compare};
 use std::cmp::Ordering;
 
 // Whether the whole numbers at two rows are the same one, and neither is NULL.

@@ -5,7 +5,7 @@ ghost use Rattle.rj_columns.specs.Contents.{content_of, IsInLimits};
 ghost use Rattle.rj_columns.specs.Scales.{coalesced, in_scale, HasScaleWithin};
 
 use crate::cell::{Cell, narrow};
-use rj_decimal::{Decimal, rescale};
+use crate::decimal::{Decimal, rescale};
 
 /// A cell's number with this many digits after the point, at most 18 and no fewer than its own. The
 /// value stays the same. If the scale is 0, a whole number stays a whole number. A text and a NULL

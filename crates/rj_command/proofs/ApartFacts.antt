@@ -3,7 +3,7 @@ use Rattle.std.proofs.Common.{◌≡◌, ◌≢◌, ◌∙◌, ℕ, zero, suc, L
 use Rattle.std.specs.Prelude.{if◌then◌else◌, slice_index_or, ◌==◌}
 use Rattle.std.proofs.lemmas.Bool.{cases_Bool}
 use Rattle.csv.specs.Reading.{records, strip_bom}
-use Rattle.rj_decimal.specs.Numbers.{finer}
+use Rattle.rj_columns.specs.Numbers.{finer}
 use Rattle.rj_columns.specs.declared.cell.ColumnType.{ColumnType}
 use Rattle.rj_columns.specs.Contents.{Content, nothing, whole, decimal, word}
 use Rattle.rj_columns.specs.Scales.{coalesced, in_scale}
@@ -13,7 +13,7 @@ use Rattle.rj_csv_io.specs.Ambiguous.{AreApart}
 use Rattle.rj_csv_io.specs.Tables.{records_read}
 use Rattle.rj_csv_io.specs.Typed.{is_null_field}
 use Rattle.rj_csv_io.specs.declared.refused.ReadRefused.{ReadRefused}
-use Rattle.rj_types.specs.Columns.{types_under}
+use Rattle.rj_settings.specs.Columns.{types_under}
 use Rattle.rj_engine.specs.Cells.{coalesced_scale, joined_cell, joined_cells, left_cell, right_cell}
 use Rattle.rj_engine.specs.Chosen.{chosen_columns, chosen_rows, chosen_view}
 use Rattle.rj_engine.specs.Results.{joined_of}
@@ -22,13 +22,13 @@ use Rattle.rj_engine.specs.declared.joined.JoinedRow.{JoinedRow}
 use Rattle.rj_engine.specs.declared.joined.JoinedRow.TheVariants.{Both, LeftOnly, RightOnly}
 use Rattle.rj_engine.specs.declared.origin.Origin.{Origin}
 use Rattle.rj_engine.specs.declared.origin.Origin.TheVariants.{Coalesced, Left, Right}
-use Rattle.rj_strict.specs.Grammar.{records_of}
-use Rattle.rj_strict.specs.Reading.{config_of}
+use Rattle.rj_csv_io.specs.Grammar.{records_of}
+use Rattle.rj_csv_io.specs.StrictReading.{config_of}
 use Rattle.rj_command.specs.Sides.{IsTable, IsTableBy, delimiter_of, has_lawful_nulls, header_records, nulls_of, side_records, told, told_first, type_fault, types_of}
-use Rattle.rj_fault.specs.Faults.{read_fault}
-use Rattle.rj_fault.specs.declared.fault.Fault.{Fault}
-use Rattle.rj_fault.specs.declared.fault.Fault.TheVariants as fault
-use Rattle.rj_fault.specs.declared.fault.Side.{Side}
+use Rattle.rj_line.specs.Faults.{read_fault}
+use Rattle.rj_line.specs.declared.fault.Fault.{Fault}
+use Rattle.rj_line.specs.declared.fault.Fault.TheVariants as fault
+use Rattle.rj_line.specs.declared.fault.Side.{Side}
 use Rattle.rj_line.specs.declared.request.Request.{Request}
 use Rattle.rj_line.specs.declared.request.Strictness.{Strictness}
 use Rattle.rj_line.specs.declared.request.Strictness.TheVariants as strictness

@@ -16,16 +16,16 @@ use Rattle.rj_condition.specs.Bound.{bound}
 use Rattle.rj_condition.specs.Clauses.{HasClause}
 use Rattle.rj_condition.specs.declared.tree.Clause.{Clause}
 use Rattle.rj_csv_io.specs.declared.refused.ReadRefused.{ReadRefused}
-use Rattle.rj_fault.specs.declared.fault.Fault.{Fault}
-use Rattle.rj_fault.specs.declared.fault.Side.{Side}
-use Rattle.rj_fault.specs.declared.fault.Side.TheVariants as side
+use Rattle.rj_line.specs.declared.fault.Fault.{Fault}
+use Rattle.rj_line.specs.declared.fault.Side.{Side}
+use Rattle.rj_line.specs.declared.fault.Side.TheVariants as side
 use Rattle.rj_line.specs.declared.request.Request.{Request}
-use Rattle.rj_strict.specs.Grammar.{Derives, File, file_text, records_of}
-use Rattle.rj_strict.specs.Reading.{body_of, config_of, quoted}
-use Rattle.rj_strict.specs.declared.fault.StrictFault.{StrictFault}
-use Rattle.rj_strict.specs.declared.header.Header.TheVariants.{First}
-use Rattle.rj_suggest.specs.Suggested.{AreKindsOf, read_as_texts}
-use Rattle.rj_types.specs.declared.entry.TypeEntry.{TypeEntry}
+use Rattle.rj_csv_io.specs.Grammar.{Derives, File, file_text, records_of}
+use Rattle.rj_csv_io.specs.StrictReading.{body_of, config_of, quoted}
+use Rattle.rj_csv_io.specs.declared.strict.fault.StrictFault.{StrictFault}
+use Rattle.rj_csv_io.specs.declared.strict.header.HeaderPlace.TheVariants.{First}
+use Rattle.rj_line.specs.Suggested.{AreKindsOf, read_as_texts}
+use Rattle.rj_settings.specs.declared.types.entry.TypeEntry.{TypeEntry}
 use Rattle.rj_command.specs.Auto.{AreKindsIn, AreStrictKinds, HasFurther, IsBound, IsNumberTable, entries_from, entry_at, entry_for, leaves_open}
 use Rattle.rj_command.specs.Operands.{AreHeaders, header_table}
 use Rattle.rj_command.specs.Sides.{delimiter_of, nulls_of, types_of}

@@ -5,8 +5,8 @@ use Rattle.std.specs.declared.alloc.Global.{Global}
 use Rattle.std.specs.declared.vec.Vec.{Vec}
 use Rattle.std.proofs.Math.Nat.{le_refl, max-eq_left}
 use Rattle.std.proofs.lemmas.List.Elements.{All-cons, All-head, All-nil, All-tail}
-use Rattle.rj_decimal.specs.Numbers.{finer}
-use Rattle.rj_decimal.proofs.Shifts.{finer-none}
+use Rattle.rj_columns.specs.Numbers.{finer}
+use Rattle.rj_columns.proofs.Shifts.{finer-none}
 use Rattle.rj_columns.specs.declared.cell.ColumnType.{ColumnType}
 use Rattle.rj_columns.specs.declared.cell.ColumnType.TheVariants as kind
 use Rattle.rj_columns.specs.Contents.{Content, FitsType, nothing, whole, decimal, word}

@@ -3,7 +3,7 @@ use Rattle.std.proofs.Common.{◌≡◌, ◌⊎◌, inl, inr, Bool, true, false,
 use Rattle.std.specs.Prelude.{◌↔◌, IfErr, IfOk, IsTrue, OnOk}
 use Rattle.std.specs.declared.alloc.AllocError.{AllocError}
 use Rattle.rj_command.specs.Expected.{refusal_of}
-use Rattle.rj_fault.specs.declared.fault.Fault.TheVariants as fault
+use Rattle.rj_line.specs.declared.fault.Fault.TheVariants as fault
 
 pub expected_told : (P : Type 0) (r : Result Bool AllocError) → IfOk r (λ b. IsTrue b ↔ P) → OnOk (refusal_of r) P
 expected_told P (Ok true) h = h.0 refl

@@ -14,15 +14,15 @@ use Rattle.rj_csv_io.specs.declared.refused.ReadRefused.TheVariants as read
 use Rattle.rj_csv_io.proofs.PartFacts.{empty_table-rows}
 use Rattle.rj_csv_io.proofs.RowsFacts.{rows-end}
 use Rattle.rj_csv_io.proofs.TableFacts.{read_bad_header}
-use Rattle.rj_types.specs.Columns.{types_under}
-use Rattle.rj_types.specs.declared.entry.TypeEntry.{TypeEntry}
-use Rattle.rj_fault.specs.Faults.{read_fault}
-use Rattle.rj_fault.specs.declared.fault.Fault.{Fault}
-use Rattle.rj_fault.specs.declared.fault.Fault.TheVariants as fault
-use Rattle.rj_fault.specs.declared.fault.Side.{Side}
-use Rattle.rj_fault.specs.declared.fault.Side.TheVariants as side
+use Rattle.rj_settings.specs.Columns.{types_under}
+use Rattle.rj_settings.specs.declared.types.entry.TypeEntry.{TypeEntry}
+use Rattle.rj_line.specs.Faults.{read_fault}
+use Rattle.rj_line.specs.declared.fault.Fault.{Fault}
+use Rattle.rj_line.specs.declared.fault.Fault.TheVariants as fault
+use Rattle.rj_line.specs.declared.fault.Side.{Side}
+use Rattle.rj_line.specs.declared.fault.Side.TheVariants as side
 use Rattle.rj_line.specs.declared.request.Request.{Request}
-use Rattle.rj_strict.specs.Reading.{config_of}
+use Rattle.rj_csv_io.specs.StrictReading.{config_of}
 use Rattle.rj_command.specs.Operands.{header_table}
 use Rattle.rj_command.specs.Sides.{delimiter_of, has_lawful_nulls, nulls_of, side_records, type_fault, types_of}
 

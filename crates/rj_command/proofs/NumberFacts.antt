@@ -9,7 +9,7 @@ use Rattle.std.proofs.lemmas.List.Elements.{All-cons, All-nil}
 use Rattle.std.proofs.lemmas.Nat.{mod_below}
 use Rattle.std.proofs.lemmas.Str.{IsAscii-append, IsUtf8-from_ascii}
 use Rattle.std.proofs.lemmas.Str.Ascii.{IsAscii-from_all, IsAscii-nil}
-use Rattle.rj_decimal.specs.Written.{fraction_text, last_digits, size_text, text_of}
+use Rattle.rj_columns.specs.NumbersWritten.{fraction_text, last_digits, size_text, text_of}
 
 byte-ascii : (b : ℕ) → b < 128 → IsAscii (b ∷ [])
 byte-ascii b low = IsAscii-from_all (b ∷ []) (All-cons (λ c. c < 128) b [] low (All-nil (λ c. c < 128)))

@@ -8,10 +8,10 @@ use Rattle.rj_condition.specs.Joins.{kind_of_join}
 use Rattle.rj_condition.specs.declared.tree.Clause.{Clause}
 use Rattle.rj_condition.specs.declared.refused.BindRefused.{BindRefused}
 use Rattle.rj_condition.specs.declared.refused.BindRefused.TheVariants as bind
-use Rattle.rj_fault.specs.declared.fault.Fault.{Fault}
-use Rattle.rj_fault.specs.declared.fault.Fault.TheVariants as fault
-use Rattle.rj_fault.specs.declared.fault.Side.{Side}
-use Rattle.rj_fault.specs.declared.fault.Side.TheVariants as side
+use Rattle.rj_line.specs.declared.fault.Fault.{Fault}
+use Rattle.rj_line.specs.declared.fault.Fault.TheVariants as fault
+use Rattle.rj_line.specs.declared.fault.Side.{Side}
+use Rattle.rj_line.specs.declared.fault.Side.TheVariants as side
 use Rattle.rj_line.specs.declared.request.Request.{Request}
 use Rattle.rj_command.specs.Operands.{AreHeaders, HasNames, HasNoHeaderFault, IsClauseFault, IsFirstFault, IsHeaderFault, IsJoinAsked, IsJoinFault, IsNameFault, header_table, in_clause, in_headers, in_left, in_right, of_clause, of_text, of_types, shared_fault, unbound, unread}
 use Rattle.rj_command.specs.Refused.{bind_fault, parse_fault}

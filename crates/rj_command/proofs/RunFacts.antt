@@ -5,9 +5,9 @@ use Rattle.std.proofs.lemmas.Bool.{cases_Bool}
 use Rattle.csv.specs.Reading.{records, strip_bom}
 use Rattle.rj_columns.specs.Names.{empty_table}
 use Rattle.rj_csv_io.specs.Tables.{records_read}
-use Rattle.rj_strict.specs.Grammar.{records_of}
-use Rattle.rj_strict.specs.Reading.{config_of}
-use Rattle.rj_types.specs.Columns.{name_fault, types_under}
+use Rattle.rj_csv_io.specs.Grammar.{records_of}
+use Rattle.rj_csv_io.specs.StrictReading.{config_of}
+use Rattle.rj_settings.specs.Columns.{name_fault, types_under}
 use Rattle.std.proofs.lemmas.Result.{IfOk-weaker, IfErr-weaker}
 use Rattle.rj_columns.specs.Tables.{TableValue}
 use Rattle.rj_condition.specs.declared.refused.ParseRefused.{ParseRefused}
@@ -29,19 +29,19 @@ use Rattle.rj_condition.specs.declared.bound.BoundJoin.{BoundJoin}
 use Rattle.rj_condition.specs.declared.undeclared.TableColumn.{TableColumn}
 use Rattle.rj_condition.specs.declared.undeclared.TableColumn.TheVariants as column
 use Rattle.rj_command.specs.Sides.{IsStrictFault, IsTableFaultBy, delimiter_of, fault_below, has_lawful_nulls, header_records, is_no_header, nulls_of, of_records, of_text, records_in_lines, side_records, stands, strict_fault, told, told_first, types_of}
-use Rattle.rj_fault.specs.Faults.{read_fault}
+use Rattle.rj_line.specs.Faults.{read_fault}
 use Rattle.rj_command.specs.Runs.{CanBeWritten, HasJoined, IsJoined, IsReady, IsRunFault, IsUnwritten, WritesJoined, WritesTables, chosen_text}
-use Rattle.rj_fault.specs.declared.fault.Fault.{Fault}
-use Rattle.rj_fault.specs.declared.fault.Fault.TheVariants as fault
-use Rattle.rj_fault.specs.declared.fault.Side.{Side}
-use Rattle.rj_fault.specs.declared.fault.Side.TheVariants as side
+use Rattle.rj_line.specs.declared.fault.Fault.{Fault}
+use Rattle.rj_line.specs.declared.fault.Fault.TheVariants as fault
+use Rattle.rj_line.specs.declared.fault.Side.{Side}
+use Rattle.rj_line.specs.declared.fault.Side.TheVariants as side
 use Rattle.rj_command.specs.declared.join.operands.Operands.{Operands}
 use Rattle.rj_line.specs.declared.request.Request.{Request}
 use Rattle.rj_line.specs.declared.request.Strictness.{Strictness}
 use Rattle.rj_line.specs.declared.request.Strictness.TheVariants as strictness
 use Rattle.rj_command.specs.declared.join.stats.Stats.{Stats}
-use Rattle.rj_strict.specs.declared.fault.StrictFault.{StrictFault}
-use Rattle.rj_strict.specs.declared.fault.StrictFault.TheVariants as strict
+use Rattle.rj_csv_io.specs.declared.strict.fault.StrictFault.{StrictFault}
+use Rattle.rj_csv_io.specs.declared.strict.fault.StrictFault.TheVariants as strict
 
 -- what can be written of the operands' joined table is the text of that of the bytes
 pub joined_of_ready : (left right : List ℕ) (q : Request) (o : Operands) (stats : Stats) → AreOperands left right q o.left o.right o.join

@@ -3,15 +3,15 @@ use Rattle.std.proofs.Common.{◌≡◌, ◌≢◌, ◌∙◌, Bool, true, List,
 use Rattle.std.specs.Prelude.{Result, Ok, Err, IfOk, IfErr, None}
 use Rattle.std.proofs.lemmas.List.{append-nil}
 use Rattle.rj_columns.specs.Tables.{TableValue}
-use Rattle.rj_strict.specs.Faults.{AreAbove, HasFault, row_at}
-use Rattle.rj_strict.specs.Grammar.{Derives, File, Line, lines_text, records_of}
-use Rattle.rj_strict.specs.Reading.{body_of}
-use Rattle.rj_strict.specs.declared.fault.StrictFault.{StrictFault}
-use Rattle.rj_strict.specs.declared.header.Header.TheVariants.{First}
+use Rattle.rj_csv_io.specs.StrictFaults.{AreAbove, HasFault, row_at}
+use Rattle.rj_csv_io.specs.Grammar.{Derives, File, Line, lines_text, records_of}
+use Rattle.rj_csv_io.specs.StrictReading.{body_of}
+use Rattle.rj_csv_io.specs.declared.strict.fault.StrictFault.{StrictFault}
+use Rattle.rj_csv_io.specs.declared.strict.header.HeaderPlace.TheVariants.{First}
 use Rattle.rj_command.specs.Sides.{IsReading, IsStrictFault, IsStrictTable, delimiter_of, fault_below, of_records, of_text, records_in_lines, side_records, told}
-use Rattle.rj_fault.specs.declared.fault.Fault.{Fault}
-use Rattle.rj_fault.specs.declared.fault.Fault.TheVariants as fault
-use Rattle.rj_fault.specs.declared.fault.Side.{Side}
+use Rattle.rj_line.specs.declared.fault.Fault.{Fault}
+use Rattle.rj_line.specs.declared.fault.Fault.TheVariants as fault
+use Rattle.rj_line.specs.declared.fault.Side.{Side}
 use Rattle.rj_line.specs.declared.request.Request.{Request}
 
 module _ (q : Request) (s : Side) where

@@ -4,12 +4,12 @@ use Rattle.std.specs.Char.{is_ascii_digit}
 use Rattle.std.specs.List.{filter, list_all}
 use Rattle.std.specs.Option.{option_or}
 use Rattle.std.specs.Str.Parse.{starts_with_minus, without_leading_sign}
-use Rattle.rj_decimal.specs.Read.{are_digits, has_point, is_unsigned_text}
+use Rattle.rj_columns.specs.NumbersRead.{are_digits, has_point, is_unsigned_text}
 use Rattle.rj_columns.specs.Contents.{Content, nothing, whole, decimal, word}
 use Rattle.rj_columns.specs.Tables.{TableValue, column_in}
 use Rattle.rj_condition.specs.Tokens.{is_name_byte}
-use Rattle.rj_fault.specs.declared.fault.Side.{Side}
-use Rattle.rj_fault.specs.declared.fault.Side.TheVariants as side
+use Rattle.rj_line.specs.declared.fault.Side.{Side}
+use Rattle.rj_line.specs.declared.fault.Side.TheVariants as side
 use Rattle.rj_line.specs.declared.request.Request.{Request}
 use Rattle.rj_command.specs.ShownTexts.{shown_text}
 use Rattle.rj_command.specs.Sides.{types_of}

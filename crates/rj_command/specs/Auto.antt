@@ -10,18 +10,18 @@ use Rattle.rj_condition.specs.Clauses.{HasClause}
 use Rattle.rj_condition.specs.Undeclared.{Marked, undeclared_in}
 use Rattle.rj_condition.specs.declared.bound.BoundJoin.{BoundJoin}
 use Rattle.rj_condition.specs.declared.tree.Clause.{Clause}
-use Rattle.rj_fault.specs.declared.fault.Side.{Side}
-use Rattle.rj_fault.specs.declared.fault.Side.TheVariants as side
+use Rattle.rj_line.specs.declared.fault.Side.{Side}
+use Rattle.rj_line.specs.declared.fault.Side.TheVariants as side
 use Rattle.rj_line.specs.declared.request.Request.{Request}
 use Rattle.rj_line.specs.declared.request.Strictness.{Strictness}
 use Rattle.rj_line.specs.declared.request.Strictness.TheVariants as strictness
-use Rattle.rj_strict.specs.Grammar.{Derives, File, records_of}
-use Rattle.rj_strict.specs.Reading.{body_of, config_of}
-use Rattle.rj_strict.specs.declared.header.Header.TheVariants.{First}
-use Rattle.rj_suggest.specs.Suggested.{AreKindsOf}
-use Rattle.rj_types.specs.Columns as columns
-use Rattle.rj_types.specs.declared.entry.Label.TheVariants.{Shared}
-use Rattle.rj_types.specs.declared.entry.TypeEntry.{TypeEntry}
+use Rattle.rj_csv_io.specs.Grammar.{Derives, File, records_of}
+use Rattle.rj_csv_io.specs.StrictReading.{body_of, config_of}
+use Rattle.rj_csv_io.specs.declared.strict.header.HeaderPlace.TheVariants.{First}
+use Rattle.rj_line.specs.Suggested.{AreKindsOf}
+use Rattle.rj_settings.specs.Columns as columns
+use Rattle.rj_settings.specs.declared.types.entry.Label.TheVariants.{Shared}
+use Rattle.rj_settings.specs.declared.types.entry.TypeEntry.{TypeEntry}
 use Rattle.rj_command.specs.Operands.{AreHeaders, IsJoinOf}
 use Rattle.rj_command.specs.Sides.{delimiter_of, has_lawful_nulls, nulls_of, types_of}
 use Rattle.rj_command.specs.Undeclared.{is_open, is_undeclared}

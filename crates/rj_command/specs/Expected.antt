@@ -5,8 +5,8 @@ use Rattle.rj_columns.specs.Tables.{TableValue}
 use Rattle.rj_condition.specs.declared.bound.BoundJoin.{BoundJoin}
 use Rattle.rj_engine.specs.Expected.{IsAsExpected}
 use Rattle.rj_engine.specs.Results.{joined_of}
-use Rattle.rj_fault.specs.declared.fault.Fault.{Fault}
-use Rattle.rj_fault.specs.declared.fault.Fault.TheVariants as fault
+use Rattle.rj_line.specs.declared.fault.Fault.{Fault}
+use Rattle.rj_line.specs.declared.fault.Fault.TheVariants as fault
 use Rattle.rj_line.specs.declared.request.Request.{Request}
 use Rattle.rj_settings.specs.declared.expectation.Expectation.{Expectation}
 

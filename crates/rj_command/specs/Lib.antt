@@ -1,4 +1,4 @@
-pub use Rattle.rj_fault.specs.Faults
+pub use Rattle.rj_line.specs.Faults
 pub use Rattle.rj_line.specs.Choices
 pub use Rattle.rj_line.specs.Line
 pub use Rattle.rj_line.specs.Named

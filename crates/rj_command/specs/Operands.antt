@@ -6,18 +6,18 @@ use Rattle.rj_condition.specs.Bound.{bound}
 use Rattle.rj_condition.specs.declared.tree.Clause.{Clause}
 use Rattle.rj_condition.specs.declared.bound.BoundJoin.{BoundJoin}
 use Rattle.rj_condition.specs.declared.refused.BindRefused.{BindRefused}
-use Rattle.rj_fault.specs.declared.fault.Fault.{Fault}
-use Rattle.rj_fault.specs.declared.fault.Fault.TheVariants as fault
-use Rattle.rj_fault.specs.declared.fault.Side.{Side}
-use Rattle.rj_fault.specs.declared.fault.Side.TheVariants as side
+use Rattle.rj_line.specs.declared.fault.Fault.{Fault}
+use Rattle.rj_line.specs.declared.fault.Fault.TheVariants as fault
+use Rattle.rj_line.specs.declared.fault.Side.{Side}
+use Rattle.rj_line.specs.declared.fault.Side.TheVariants as side
 use Rattle.rj_line.specs.declared.request.Request.{Request}
-use Rattle.rj_strict.specs.Reading.{config_of}
+use Rattle.rj_csv_io.specs.StrictReading.{config_of}
 use Rattle.rj_engine.specs.Naming.{chosen_names}
 use Rattle.rj_engine.specs.declared.naming.NamingRefused.{NamingRefused}
 use Rattle.rj_command.specs.Refused.{bind_fault, naming_fault, parse_fault}
 use Rattle.rj_command.specs.Sides.{IsTable, IsTableFault, delimiter_of, side_records}
 use Rattle.rj_command.specs.SuchRows.{asked_for}
-use Rattle.rj_types.specs.Columns.{name_fault}
+use Rattle.rj_settings.specs.Columns.{name_fault}
 use Rattle.rj_condition.specs.Clauses.{HasClause, IsFault}
 use Rattle.rj_condition.specs.declared.refused.ParseRefused.{ParseRefused}
 use Rattle.rj_condition.specs.declared.refused.ParseRefused.TheVariants as parse

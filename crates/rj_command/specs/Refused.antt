@@ -5,8 +5,8 @@ use Rattle.rj_condition.specs.declared.refused.ParseRefused.{ParseRefused}
 use Rattle.rj_condition.specs.declared.refused.ParseRefused.TheVariants as parse
 use Rattle.rj_engine.specs.declared.naming.NamingRefused.{NamingRefused}
 use Rattle.rj_engine.specs.declared.naming.NamingRefused.TheVariants as naming
-use Rattle.rj_fault.specs.declared.fault.Fault.{Fault}
-use Rattle.rj_fault.specs.declared.fault.Fault.TheVariants as fault
+use Rattle.rj_line.specs.declared.fault.Fault.{Fault}
+use Rattle.rj_line.specs.declared.fault.Fault.TheVariants as fault
 
 -- the error of a clause that can't be read
 abbrev pub parse_fault : ParseRefused → Fault

@@ -27,15 +27,15 @@ use Rattle.rj_command.specs.Alike.{names_of, text_key_names}
 use Rattle.rj_command.specs.Expected.{IsExpected, IsUnexpected}
 use Rattle.rj_command.specs.Operands.{AreOperands, IsFirstFault, IsNameFault}
 use Rattle.rj_command.specs.Reported.{IsReported}
-use Rattle.rj_fault.specs.declared.fault.Fault.{Fault}
-use Rattle.rj_fault.specs.declared.fault.Fault.TheVariants as fault
+use Rattle.rj_line.specs.declared.fault.Fault.{Fault}
+use Rattle.rj_line.specs.declared.fault.Fault.TheVariants as fault
 use Rattle.rj_command.specs.declared.join.operands.Operands.{Operands}
 use Rattle.rj_line.specs.declared.request.Hash.{Hash}
 use Rattle.rj_line.specs.declared.request.Hash.TheVariants as hash
 use Rattle.rj_line.specs.declared.request.Request.{Request}
 use Rattle.rj_line.specs.declared.request.Strictness.{Strictness}
 use Rattle.rj_line.specs.declared.request.Strictness.TheVariants as strictness
-use Rattle.rj_fault.specs.declared.fault.Side.TheVariants as side
+use Rattle.rj_line.specs.declared.fault.Side.TheVariants as side
 use Rattle.rj_command.specs.Sides.{nulls_of}
 use Rattle.rj_command.specs.SuchRows.{unkept_side}
 use Rattle.rj_command.specs.declared.join.stats.Stats.{Stats}

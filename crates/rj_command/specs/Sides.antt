@@ -8,19 +8,19 @@ use Rattle.rj_columns.specs.declared.refused.BuildRefused.TheVariants as build
 use Rattle.rj_csv_io.specs.Tables.{are_null_texts, is_null_text, records_read}
 use Rattle.rj_csv_io.specs.Typed.{null_texts}
 use Rattle.rj_csv_io.specs.declared.refused.ReadRefused.{ReadRefused}
-use Rattle.rj_strict.specs.Faults.{AreAbove, HasFault, row_at}
-use Rattle.rj_strict.specs.Grammar.{Derives, File, Line, records_of}
-use Rattle.rj_strict.specs.Reading.{body_of, config_of}
-use Rattle.rj_strict.specs.declared.fault.StrictFault.{StrictFault}
-use Rattle.rj_strict.specs.declared.fault.StrictFault.TheVariants as strict
-use Rattle.rj_strict.specs.declared.header.Header.TheVariants.{First}
-use Rattle.rj_types.specs.Columns.{name_fault, types_under}
-use Rattle.rj_types.specs.declared.entry.TypeEntry.{TypeEntry}
-use Rattle.rj_fault.specs.Faults.{read_fault}
-use Rattle.rj_fault.specs.declared.fault.Fault.{Fault}
-use Rattle.rj_fault.specs.declared.fault.Fault.TheVariants as fault
-use Rattle.rj_fault.specs.declared.fault.Side.{Side}
-use Rattle.rj_fault.specs.declared.fault.Side.TheVariants as side
+use Rattle.rj_csv_io.specs.StrictFaults.{AreAbove, HasFault, row_at}
+use Rattle.rj_csv_io.specs.Grammar.{Derives, File, Line, records_of}
+use Rattle.rj_csv_io.specs.StrictReading.{body_of, config_of}
+use Rattle.rj_csv_io.specs.declared.strict.fault.StrictFault.{StrictFault}
+use Rattle.rj_csv_io.specs.declared.strict.fault.StrictFault.TheVariants as strict
+use Rattle.rj_csv_io.specs.declared.strict.header.HeaderPlace.TheVariants.{First}
+use Rattle.rj_settings.specs.Columns.{name_fault, types_under}
+use Rattle.rj_settings.specs.declared.types.entry.TypeEntry.{TypeEntry}
+use Rattle.rj_line.specs.Faults.{read_fault}
+use Rattle.rj_line.specs.declared.fault.Fault.{Fault}
+use Rattle.rj_line.specs.declared.fault.Fault.TheVariants as fault
+use Rattle.rj_line.specs.declared.fault.Side.{Side}
+use Rattle.rj_line.specs.declared.fault.Side.TheVariants as side
 use Rattle.rj_line.specs.declared.request.Request.{Request}
 use Rattle.rj_line.specs.declared.request.Strictness.{Strictness}
 use Rattle.rj_line.specs.declared.request.Strictness.TheVariants as strictness

@@ -1,9 +1,9 @@
 -- The text of the statistics of a join.
 use Rattle.std.specs.Prelude.{ℕ, if◌then◌else◌, List, [], ◌∷◌, ◌++◌, codes, decimal, string_bytes}
 use Rattle.std.specs.List.{flat_map}
-use Rattle.rj_fault.specs.Faults.{side_text}
-use Rattle.rj_fault.specs.declared.fault.Side.{Side}
-use Rattle.rj_fault.specs.declared.fault.Side.TheVariants as side
+use Rattle.rj_line.specs.Faults.{side_text}
+use Rattle.rj_line.specs.declared.fault.Side.{Side}
+use Rattle.rj_line.specs.declared.fault.Side.TheVariants as side
 use Rattle.rj_command.specs.declared.join.stats.PartitionRows.{PartitionRows}
 use Rattle.rj_command.specs.declared.join.stats.Stats.{Stats}
 use Rattle.rj_command.specs.declared.join.stats.TextKey.{TextKey}

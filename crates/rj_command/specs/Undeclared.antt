@@ -10,12 +10,12 @@ use Rattle.rj_condition.specs.declared.refused.BindRefused.{BindRefused}
 use Rattle.rj_condition.specs.declared.refused.BindRefused.TheVariants as bind
 use Rattle.rj_condition.specs.declared.undeclared.TableColumn.{TableColumn}
 use Rattle.rj_condition.specs.declared.undeclared.TableColumn.TheVariants as column
-use Rattle.rj_types.specs.Columns as columns
-use Rattle.rj_types.specs.declared.entry.TypeEntry.{TypeEntry}
-use Rattle.rj_fault.specs.declared.fault.Fault.{Fault}
-use Rattle.rj_fault.specs.declared.fault.Fault.TheVariants as fault
-use Rattle.rj_fault.specs.declared.fault.Side.{Side}
-use Rattle.rj_fault.specs.declared.fault.Side.TheVariants as side
+use Rattle.rj_settings.specs.Columns as columns
+use Rattle.rj_settings.specs.declared.types.entry.TypeEntry.{TypeEntry}
+use Rattle.rj_line.specs.declared.fault.Fault.{Fault}
+use Rattle.rj_line.specs.declared.fault.Fault.TheVariants as fault
+use Rattle.rj_line.specs.declared.fault.Side.{Side}
+use Rattle.rj_line.specs.declared.fault.Side.TheVariants as side
 use Rattle.rj_line.specs.declared.request.Request.{Request}
 use Rattle.rj_command.specs.Refused.{bind_fault}
 use Rattle.rj_command.specs.Sides.{types_of}

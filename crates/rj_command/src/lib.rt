@@ -10,7 +10,9 @@ pub use join::{
     results_are_apart, results_read_back, run, types_of_header,
 };
 pub use rj_engine::{Gate, OpenGate, Place, Violation};
-pub use rj_fault::{ExitReason, Fault, Side, VERSION, fault_of_read, read_words, tell, texts_of};
+pub use rj_line::fault::{
+    ExitReason, Fault, Side, VERSION, fault_of_read, read_words, tell, texts_of,
+};
+pub use rj_line::script::arrivals;
 pub use rj_line::{Hash, Line, Request, Strictness, read_line, read_nulls, read_types};
-pub use rj_script::arrivals;
-pub use rj_types::TypeEntry;
+pub use rj_settings::types::TypeEntry;

@@ -22,6 +22,7 @@ long_short text a b = omega arith
 deep_flat : (text : List ℕ) (ts us : List Token) → Lexes text ts → Lexes text us → is_deep ts ≡ true → is_deep us ≡ false → ⊥
 deep_flat text ts us k l e f = let same = ap is_deep (one_reading text ts us k l) in cc
 
+-- no text has two clauses
 pub one_clause : (text : List ℕ) (c d : Clause) → HasClause text c → HasClause text d → c ≡ d
 one_clause text c d p q =
     whole.one_clause p.0 c d p.4 (subst (λ (z : List Token). Derives z d) (one_reading text q.0 p.0 q.2 p.2) q.4)

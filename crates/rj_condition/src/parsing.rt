@@ -1,6 +1,6 @@
 //! A clause text and its syntax tree.
 
-ghost use Rattle.std.specs.Prelude.{◌≡◌, ◌∷◌, ◌-◌, [], ◌≤◌, length, slice_get, unwrap_or, List, ℕ};
+ghost use Rattle.std.specs.Prelude.{◌≡◌, ◌∷◌, ◌-◌, [], ◌≤◌, length, slice_get, unwrap_or};
 ghost use Rattle.rj_condition.specs.declared.tree.Clause.{Clause};
 ghost use Rattle.rj_condition.specs.declared.refused.ParseRefused.TheVariants as refused;
 ghost use Rattle.rj_condition.specs.Clauses.{IsTooLong, IsTooDeep, HasClause, HasNoClause, Parses, IsAnswer, Refuses, IsSyntax};
@@ -66,8 +66,3 @@ fn fault_byte(starts: &[u32], left: usize, text_len: usize) -> usize
         None => text_len,
     }
 }
-
-/// No text has two clauses.
-pub fn one_clause()
-    ensures { (text : List ℕ) (c d : Clause) → HasClause text c → HasClause text d → c ≡ d }
-{}

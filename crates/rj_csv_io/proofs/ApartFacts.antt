@@ -7,7 +7,7 @@ use Rattle.std.proofs.lemmas.Bool.{cases_Bool, cases_lt, false_from_ne_true, fal
 use Rattle.std.proofs.lemmas.List.{get_or_past}
 use Rattle.std.proofs.lemmas.List.Elements.{All-nil, All-push}
 use Rattle.std.proofs.lemmas.Slice.Eq.{bytes_eq-Decides}
-use Rattle.rj_decimal.specs.Read.{numeric_of}
+use Rattle.rj_columns.specs.NumbersRead.{numeric_of}
 use Rattle.rj_columns.specs.declared.cell.ColumnType.{ColumnType}
 use Rattle.rj_columns.specs.declared.cell.ColumnType.TheVariants as kind
 use Rattle.rj_columns.specs.declared.refused.BuildRefused.{BuildRefused}
@@ -120,8 +120,8 @@ module _ (nulls : List (List ℕ)) (null : List ℕ) (among : is_null_field null
       with_header (header ∷ rest) e = under header rest (empty_table header types) refl e
 
 -- and then each cell that isn't null is told from null
-pub clear-from : (null : List ℕ) (rows : List (List Content)) → is_null_text null ≡ true → AreApart null rows → AreClear null rows
-clear-from null rows lawful apart row col = go (cell_in rows row col) (apart row col)
+pub told_apart : (null : List ℕ) (rows : List (List Content)) → is_null_text null ≡ true → AreApart null rows → AreClear null rows
+told_apart null rows lawful apart row col = go (cell_in rows row col) (apart row col)
   where
     go : (x : Content) → x ≢ word null → is_ambiguous null x ≡ false
     go nothing other = refl

@@ -10,8 +10,8 @@ use Rattle.csv.specs.declared.parser.State.TheVariants as st
 use Rattle.csv.specs.declared.parser.Action.{Action}
 use Rattle.csv.specs.Machine.{next_record, step, in_field, start_field, start_record, ends_with, ends_at_end, is_end, fields_after, field_after, line_feed}
 use Rattle.csv.specs.Reading.{records, records_from, records_next, strip_bom, is_bom}
-use Rattle.rj_strict.specs.Grammar.{may_delimit}
-use Rattle.rj_strict.specs.Reading.{config_of}
+use Rattle.rj_csv_io.specs.Grammar.{may_delimit}
+use Rattle.rj_csv_io.specs.StrictReading.{config_of}
 use Rattle.rj_csv_io.specs.Cuts.{records_in, records_in_all, state_after, is_open, has_bom}
 use Rattle.rj_csv_io.proofs.DelimiterFacts.{no-delimiter}
 

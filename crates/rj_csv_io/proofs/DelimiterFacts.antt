@@ -2,7 +2,7 @@
 use Rattle.std.proofs.Common.{◌≡◌, ◌∙◌, ℕ, true, false, sym, ap, inl, inr}
 use Rattle.std.specs.Prelude.{◌==◌}
 use Rattle.std.proofs.lemmas.Bool.{cases_Bool, eqb-true, false≢true}
-use Rattle.rj_strict.specs.Grammar.{may_delimit}
+use Rattle.rj_csv_io.specs.Grammar.{may_delimit}
 
 module _ (d : ℕ) (lawful : may_delimit d ≡ true) (c : ℕ) (other : may_delimit c ≡ false) where
   pub no-delimiter : (c == d) ≡ false

@@ -4,7 +4,7 @@ use Rattle.std.specs.Prelude.{◌==◌, ◌&&◌, if◌then◌else◌}
 use Rattle.std.proofs.lemmas.Bool.{and_left, and_right}
 use Rattle.csv.specs.Writing.{escaped, field_text, fields_text, is_blank, needs_quotes, row_text}
 use Rattle.rj_columns.specs.Contents.{Content}
-use Rattle.rj_strict.specs.Grammar.{may_delimit}
+use Rattle.rj_csv_io.specs.Grammar.{may_delimit}
 use Rattle.rj_csv_io.specs.Cuts.{has_bom}
 use Rattle.rj_csv_io.specs.Shown.{rows_text, shown, table_text, writer_of}
 use Rattle.rj_csv_io.proofs.DelimiterFacts.{delimiter-other}

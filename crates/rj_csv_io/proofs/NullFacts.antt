@@ -9,7 +9,7 @@ use Rattle.std.proofs.lemmas.Bool.{false_from_ne_true, false≢true, and_parts, 
 use Rattle.std.proofs.Math.Bool.{or-true}
 use Rattle.std.proofs.lemmas.List.Folds.{list_any-append, list_any_at}
 use Rattle.std.proofs.lemmas.Slice.Eq.{bytes_eq-Decides}
-use Rattle.rj_decimal.specs.Written.{size_text, text_of, fraction_text}
+use Rattle.rj_columns.specs.NumbersWritten.{size_text, text_of, fraction_text}
 use Rattle.std.proofs.lemmas.List.{get_or-map, length-map}
 use Rattle.rj_csv_io.specs.Tables.{may_stand_in_null, is_null_text}
 use Rattle.rj_csv_io.specs.Typed.{is_null_field, null_texts}

@@ -5,8 +5,8 @@ use Rattle.std.proofs.lemmas.Bool.{cases_lt, eq-eqb, eqb-true, false≢true}
 use Rattle.std.proofs.lemmas.List.{get_or-drop, get_or-take, take-append-drop, length-take, length-drop}
 use Rattle.csv.specs.declared.parser.State.TheVariants as st
 use Rattle.csv.specs.Reading.{records, strip_bom}
-use Rattle.rj_strict.specs.Grammar.{may_delimit}
-use Rattle.rj_strict.specs.Reading.{config_of}
+use Rattle.rj_csv_io.specs.Grammar.{may_delimit}
+use Rattle.rj_csv_io.specs.StrictReading.{config_of}
 use Rattle.rj_csv_io.specs.declared.place.ReaderPlace.{ReaderPlace}
 use Rattle.rj_csv_io.specs.declared.place.ReaderPlace.TheVariants as place
 use Rattle.rj_csv_io.specs.Cuts.{state_after, is_open, is_separator, after_run, place_after, is_open_place, has_bom, records_in}

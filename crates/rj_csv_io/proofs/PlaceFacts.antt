@@ -9,8 +9,8 @@ use Rattle.rj_csv_io.proofs.DelimiterFacts.{delimiter-other, no-delimiter}
 use Rattle.csv.specs.declared.parser.State.{State}
 use Rattle.csv.specs.declared.parser.State.TheVariants as st
 use Rattle.csv.specs.Machine.{step}
-use Rattle.rj_strict.specs.Grammar.{may_delimit}
-use Rattle.rj_strict.specs.Reading.{config_of}
+use Rattle.rj_csv_io.specs.Grammar.{may_delimit}
+use Rattle.rj_csv_io.specs.StrictReading.{config_of}
 use Rattle.rj_csv_io.specs.declared.place.ReaderPlace.{ReaderPlace}
 use Rattle.rj_csv_io.specs.declared.place.ReaderPlace.TheVariants as place
 use Rattle.rj_csv_io.specs.Cuts.{state_after, is_open, is_separator, after_plain, after_run, after_quote, after_byte, place_after, place_of, is_open_place}

@@ -14,7 +14,7 @@ use Rattle.csv.specs.declared.parser.State.{State}
 use Rattle.csv.specs.declared.parser.State.TheVariants as st
 use Rattle.csv.specs.Machine.{Read, ends_at_end, field_after, fields_after, is_end, next_record, step}
 use Rattle.csv.specs.Reading.{records, records_from, records_next, strip_bom}
-use Rattle.rj_decimal.specs.Read.{numeric_of}
+use Rattle.rj_columns.specs.NumbersRead.{numeric_of}
 use Rattle.rj_columns.specs.declared.cell.ColumnType.{ColumnType}
 use Rattle.rj_columns.specs.declared.cell.ColumnType.TheVariants as kind
 use Rattle.rj_columns.specs.declared.refused.BuildRefused.{BuildRefused}
@@ -22,8 +22,8 @@ use Rattle.rj_columns.specs.declared.refused.BuildRefused.TheVariants as build
 use Rattle.rj_columns.specs.Contents.{Content, nothing, whole, decimal, word}
 use Rattle.rj_columns.specs.Names.{empty_table, name_fault}
 use Rattle.rj_columns.specs.Tables.{TableValue, FitsTypes}
-use Rattle.rj_strict.specs.Grammar.{may_delimit}
-use Rattle.rj_strict.specs.Reading.{config_of}
+use Rattle.rj_csv_io.specs.Grammar.{may_delimit}
+use Rattle.rj_csv_io.specs.StrictReading.{config_of}
 use Rattle.rj_csv_io.specs.declared.refused.ReadRefused.{ReadRefused}
 use Rattle.rj_csv_io.specs.declared.refused.ReadRefused.TheVariants as refused
 use Rattle.rj_csv_io.specs.Ambiguous.{AreApart}

@@ -6,7 +6,7 @@ use Rattle.std.specs.Str.Parse.{signed_digits_value, starts_with_minus, without_
 use Rattle.std.proofs.lemmas.Bool.{and_parts, cases_lt, le-leb, lt-leb, ltb-true, eq-eqb, ne_eqb}
 use Rattle.std.proofs.lemmas.List.{length_push}
 use Rattle.csv.specs.declared.reader.Reader.{Reader}
-use Rattle.rj_decimal.specs.Read.{after_point, are_zeros, before_point, fits, is_numeric_text, is_unsigned_text, numeric_of, signed_size, size_at, units_in}
+use Rattle.rj_columns.specs.NumbersRead.{after_point, are_zeros, before_point, fits, is_numeric_text, is_unsigned_text, numeric_of, signed_size, size_at, units_in}
 use Rattle.rj_columns.specs.declared.cell.ColumnType.{ColumnType}
 use Rattle.rj_columns.specs.declared.cell.ColumnType.TheVariants as kind
 use Rattle.rj_columns.specs.Contents.{Content, nothing, whole, decimal, word, FitsType}

@@ -13,8 +13,8 @@ use Rattle.csv.specs.Machine.{Read, ends_at_end, field_after, fields_after, is_e
 use Rattle.csv.specs.Reading.{default_config}
 use Rattle.csv.specs.Writing.{default_writer, escaped, field_text, fields_text, is_blank, needs_byte, needs_quotes, read_back, row_body, row_text}
 use Rattle.csv.proofs.RoundTrip.{read-write}
-use Rattle.rj_strict.specs.Grammar.{may_delimit}
-use Rattle.rj_strict.specs.Reading.{config_of}
+use Rattle.rj_csv_io.specs.Grammar.{may_delimit}
+use Rattle.rj_csv_io.specs.StrictReading.{config_of}
 use Rattle.rj_csv_io.specs.Shown.{writer_of}
 use Rattle.rj_csv_io.proofs.DelimiterFacts.{no-delimiter}
 

@@ -12,8 +12,8 @@ use Rattle.rj_columns.specs.Contents.{Content}
 use Rattle.rj_columns.specs.Names.{empty_table}
 use Rattle.rj_columns.specs.Tables.{TableValue, FitsTypes}
 use Rattle.rj_columns.proofs.RowFacts.{FitsTypes-length}
-use Rattle.rj_strict.specs.Grammar.{may_delimit}
-use Rattle.rj_strict.specs.Reading.{config_of}
+use Rattle.rj_csv_io.specs.Grammar.{may_delimit}
+use Rattle.rj_csv_io.specs.StrictReading.{config_of}
 use Rattle.rj_csv_io.specs.Cuts.{has_bom}
 use Rattle.rj_csv_io.specs.RoundTrips.{IsHeld, IsNoneOf, CanReadBack}
 use Rattle.rj_csv_io.specs.Rows.{read_rows}

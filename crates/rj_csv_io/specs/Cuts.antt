@@ -4,7 +4,7 @@ use Rattle.csv.specs.Machine.{step}
 use Rattle.csv.specs.Reading.{is_bom, records, strip_bom}
 use Rattle.csv.specs.declared.parser.State.{State}
 use Rattle.csv.specs.declared.parser.State.TheVariants as st
-use Rattle.rj_strict.specs.Reading.{config_of}
+use Rattle.rj_csv_io.specs.StrictReading.{config_of}
 use Rattle.rj_csv_io.specs.declared.place.ReaderPlace.{ReaderPlace}
 use Rattle.rj_csv_io.specs.declared.place.ReaderPlace.TheVariants as place
 

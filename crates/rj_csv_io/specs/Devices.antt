@@ -1,5 +1,5 @@
 -- What clauses know of a writer or a reader of std whose failures are counted.
-use Rattle.std.specs.Prelude.{ℕ}
+use Rattle.std.specs.Prelude.{◌+◌, ◌-◌, ◌^◌, ℕ, min}
 use Rattle.rj_csv_io.specs.declared.input.CountedReader.{CountedReader}
 use Rattle.rj_csv_io.specs.declared.output.CountedWriter.{CountedWriter}
 
@@ -22,3 +22,7 @@ read_failures_of c = c.failures
 -- about how many bytes it will give, as it was set
 abbrev pub likely_size_of : {R : Type 0} → CountedReader R → ℕ
 likely_size_of c = c.likely_size
+
+-- how often a device has failed after one failure more, as far as 64 bits count
+abbrev pub after_failure : ℕ → ℕ
+after_failure count = min (count + 1) (2 ^ 64 - 1)

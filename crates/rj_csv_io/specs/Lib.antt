@@ -15,3 +15,13 @@ pub mod Ambiguous
 pub mod RoundTrips
 pub mod Ends
 pub mod Columns
+pub mod Grammar
+pub mod StrictFaults
+pub mod StrictSteps
+pub mod StrictReading
+pub mod StrictWalk
+pub mod JoinedTexts
+pub mod Named
+pub mod NameEnds
+pub mod Completed
+pub mod NameColumns

@@ -4,7 +4,7 @@ use Rattle.std.specs.Prelude.{ℕ, ◌-◌, List, [], ◌∷◌, ◌++◌, map, 
 use Rattle.std.specs.Fmt.{signed_decimal}
 use Rattle.csv.specs.declared.writer.WriterBuilder.{WriterBuilder}
 use Rattle.csv.specs.Writing.{default_writer, row_text, with_delimiter}
-use Rattle.rj_decimal.specs.Written.{text_of}
+use Rattle.rj_columns.specs.NumbersWritten.{text_of}
 use Rattle.rj_columns.specs.Contents.{Content, nothing, whole, decimal, word}
 
 -- the text of a cell: NULL is the NULL text, a whole number has neither `+` nor leading zeros, and

@@ -6,8 +6,8 @@ ghost use Rattle.csv.specs.declared.parser.State.TheVariants as st;
 ghost use Rattle.rj_csv_io.specs.Cuts.{has_bom, records_in, records_in_all, state_after};
 
 use crate::place::{ReaderPlace, is_open, scan};
+use crate::strict::Delimiter;
 use memchr::memchr;
-use rj_strict::Delimiter;
 use std::alloc::{AllocError, Global};
 
 /// Whether a text begins with a byte order mark.

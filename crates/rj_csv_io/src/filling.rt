@@ -1,7 +1,8 @@
 //! Reading the bytes of a device, piece by piece.
 
-ghost use Rattle.std.specs.Prelude.{◌≡◌, ◌≢◌, ◌<◌, ◌≤◌, ◌+◌, ◌-◌, ◌^◌, ℕ, List, Option, Ok, Err, true, false, [], length, take, drop, vec_len, IfOk, IfErr, IfSome, OnOk, OnErr};
+ghost use Rattle.std.specs.Prelude.{◌≡◌, ◌≢◌, ◌<◌, ◌≤◌, ◌+◌, ◌^◌, ℕ, List, Option, Ok, Err, true, false, [], length, take, drop, vec_len, IfOk, IfErr, IfSome, OnOk, OnErr};
 ghost use Rattle.std.specs.Io.KnownBytes.{Consumes, IsAtEnd};
+ghost use Rattle.rj_csv_io.specs.Devices.{after_failure};
 
 use crate::input::Input;
 use crate::output::Failed;
@@ -14,7 +15,6 @@ const PIECE: usize = 65536;
 // Reads the next bytes of a device into a buffer, after its first `filled` bytes, and returns how
 // many they are.
 fn get_behind<I: Input>(input: &mut I, buffer: &mut [u8], filled: usize) -> Result<usize, Failed>
-    requires failures { I.count input.old < 2 ^ 64 - 1 }
     requires room { filled < length buffer.old }
     ensures size { length buffer.new ≡ length buffer.old }
     ensures front { take filled buffer.new ≡ take filled buffer.old }
@@ -22,21 +22,20 @@ fn get_behind<I: Input>(input: &mut I, buffer: &mut [u8], filled: usize) -> Resu
     ensures bytes { IfOk result (λ k. Consumes (I.tells input.old) (I.tells input.new) (take k (drop filled buffer.new))) }
     ensures end { result ≡ Ok 0 → IsAtEnd (I.tells input.new) }
     ensures kept { OnOk result (I.count input.new ≡ I.count input.old) }
-    ensures failed { OnErr result (I.count input.new ≡ I.count input.old + 1) }
+    ensures failed { OnErr result (I.count input.new ≡ after_failure (I.count input.old)) }
 {
     input.get(&mut buffer[filled..])
 }
 
 // Appends the next piece of a device's bytes. The answer is whether there was one.
 fn read_piece<I: Input>(input: &mut I, bytes: &mut Vec<u8>) -> Result<bool, ReadRefused>
-    requires failures { I.count input.old < 2 ^ 64 - 1 }
     ensures bytes { OnOk result ((start : Option (List ℕ)) → Consumes start (I.tells input.old) bytes.old.items
         → Consumes start (I.tells input.new) bytes.new.items) }
     ensures front { OnOk result (take (length bytes.old.items) bytes.new.items ≡ bytes.old.items) }
     ensures bound { OnOk result (vec_len bytes.new ≤ vec_len bytes.old + 2 ^ 16) }
     ensures more { result ≡ Ok true → vec_len bytes.old < vec_len bytes.new }
     ensures end { result ≡ Ok false → IsAtEnd (I.tells input.new) }
-    ensures device { result ≡ Err ReadRefused.ReadDevice → I.count input.new ≡ I.count input.old + 1 }
+    ensures device { result ≡ Err ReadRefused.ReadDevice → I.count input.new ≡ after_failure (I.count input.old) }
     ensures kept { result ≢ Err ReadRefused.ReadDevice → I.count input.new ≡ I.count input.old }
     ensures fault { IfErr result (λ e. e ≢ ReadRefused.Memory → e ≡ ReadRefused.ReadDevice) }
 {
@@ -66,14 +65,13 @@ pub fn read_up_to<I: Input>(
     bytes: &mut Vec<u8>,
     size: usize,
 ) -> Result<bool, ReadRefused>
-    requires { I.count input.old < 2 ^ 64 - 1 }
     ensures bytes { OnOk result ((start : Option (List ℕ)) → Consumes start (I.tells input.old) bytes.old.items
         → Consumes start (I.tells input.new) bytes.new.items) }
     ensures front { OnOk result (take (length bytes.old.items) bytes.new.items ≡ bytes.old.items) }
     ensures bound { OnOk result (vec_len bytes.old < vec_len bytes.new → vec_len bytes.new < size + 2 ^ 16) }
     ensures end { result ≡ Ok true → IsAtEnd (I.tells input.new) }
     ensures full { result ≡ Ok false → size ≤ vec_len bytes.new }
-    ensures device { result ≡ Err ReadRefused.ReadDevice → I.count input.new ≡ I.count input.old + 1 }
+    ensures device { result ≡ Err ReadRefused.ReadDevice → I.count input.new ≡ after_failure (I.count input.old) }
     ensures kept { result ≢ Err ReadRefused.ReadDevice → I.count input.new ≡ I.count input.old }
     ensures fault { IfErr result (λ e. e ≢ ReadRefused.Memory → e ≡ ReadRefused.ReadDevice) }
 {
@@ -101,10 +99,9 @@ fn likely_room(alloc: Global, size: u64) -> Vec<u8>
 /// `ReadDevice` if the device failed, `Memory` if memory ran out. How much was read is unknown
 /// then.
 pub fn read_all<I: Input>(alloc: Global, input: &mut I) -> Result<Vec<u8>, ReadRefused>
-    requires { I.count input.old < 2 ^ 64 - 1 }
     ensures bytes { IfOk result (λ v. IfSome (I.tells input.old) (λ xs. v.items ≡ xs)) }
     ensures end { OnOk result (IsAtEnd (I.tells input.new)) }
-    ensures device { result ≡ Err ReadRefused.ReadDevice → I.count input.new ≡ I.count input.old + 1 }
+    ensures device { result ≡ Err ReadRefused.ReadDevice → I.count input.new ≡ after_failure (I.count input.old) }
     ensures kept { result ≢ Err ReadRefused.ReadDevice → I.count input.new ≡ I.count input.old }
     ensures fault { IfErr result (λ e. e ≢ ReadRefused.Memory → e ≡ ReadRefused.ReadDevice) }
 {

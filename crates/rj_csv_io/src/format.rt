@@ -1,6 +1,6 @@
 //! How the text of a table is read and written.
 
-use rj_strict::Delimiter;
+use crate::strict::Delimiter;
 
 /// How the text of a table is read.
 #[derive(Clone, Copy)]

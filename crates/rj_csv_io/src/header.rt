@@ -3,16 +3,16 @@
 ghost use Rattle.std.specs.Prelude.{◌≡◌, ◌≢◌, ◌≤◌, ◌*◌, [], length, map, IfOk, IfErr, Ok, Err, Some};
 ghost use Rattle.csv.specs.Reading.{records, strip_bom};
 ghost use Rattle.csv.specs.Records.{fields_of};
-ghost use Rattle.rj_strict.specs.Reading.{config_of};
+ghost use Rattle.rj_csv_io.specs.StrictReading.{config_of};
 ghost use Rattle.rj_columns.specs.Names.{empty_table};
 ghost use Rattle.rj_columns.specs.declared.refused.BuildRefused.{BuildRefused};
 ghost use Rattle.rj_csv_io.specs.Remaining.{records_remaining, IsBetween};
 ghost use Rattle.rj_csv_io.specs.Tables.{of_begun};
 
 use crate::refused::ReadRefused;
+use crate::strict::Delimiter;
 use csv::{ByteRecord, Reader, ReaderBuilder};
 use rj_columns::{BuildRefused, ColumnType, TableBuilder};
-use rj_strict::Delimiter;
 use std::alloc::{AllocError, Global};
 
 // How many of the first bytes are used to estimate the length of a line.

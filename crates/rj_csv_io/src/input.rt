@@ -1,8 +1,8 @@
 //! Devices that give bytes.
 
-ghost use Rattle.std.specs.Prelude.{◌≡◌, ◌<◌, ◌≤◌, ◌+◌, ◌-◌, ◌^◌, ℕ, List, Option, None, take, length, IfOk, IfSome, OnOk, OnErr};
+ghost use Rattle.std.specs.Prelude.{◌≡◌, ◌<◌, ◌≤◌, ℕ, List, Option, None, take, length, IfOk, IfSome, OnOk, OnErr};
 ghost use Rattle.std.specs.Io.KnownBytes.{Consumes, IsAtEnd};
-ghost use Rattle.rj_csv_io.specs.Devices.{likely_size_of, reader_of, read_failures_of};
+ghost use Rattle.rj_csv_io.specs.Devices.{after_failure, likely_size_of, read_failures_of, reader_of};
 
 use crate::output::Failed;
 use std::io::{ErrorKind, Read};
@@ -20,14 +20,13 @@ pub trait Input {
     ///
     /// # Errors
     ///
-    /// `Failed` if the device failed. This adds one to the count of failures.
+    /// `Failed` if the device failed. This adds one to the count of failures, as far as 64 bits count.
     fn get(&mut self, buffer: &mut [u8]) -> Result<usize, Failed>
-        requires { count self.old < 2 ^ 64 - 1 }
         ensures bound { IfOk result (λ k. k ≤ length buffer.new) }
         ensures bytes { IfOk result (λ k. Consumes (tells self.old) (tells self.new) (take k buffer.new)) }
         ensures end { IfOk result (λ k. k ≡ 0 → 0 < length buffer.new → IsAtEnd (tells self.new)) }
         ensures kept { OnOk result (count self.new ≡ count self.old) }
-        ensures failed { OnErr result (count self.new ≡ count self.old + 1) };
+        ensures failed { OnErr result (count self.new ≡ after_failure (count self.old)) };
 
     /// How often it has failed so far.
     fn failures(&self) -> u64
@@ -104,7 +103,7 @@ impl<R: Read> Input for CountedReader<R> {
         match read_some(&mut self.reader, buffer) {
             Some(k) => Ok(k),
             None => {
-                self.failures += 1;
+                self.failures = self.failures.saturating_add(1);
                 Err(Failed)
             }
         }

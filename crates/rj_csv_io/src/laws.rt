@@ -5,7 +5,7 @@ ghost use Rattle.csv.specs.Writing.{row_text};
 ghost use Rattle.rj_columns.specs.Contents.{Content, FitsType};
 ghost use Rattle.rj_columns.specs.Tables.{FitsTypes, TableValue};
 ghost use Rattle.rj_columns.specs.declared.cell.ColumnType.{ColumnType};
-ghost use Rattle.rj_strict.specs.Grammar.{may_delimit};
+ghost use Rattle.rj_csv_io.specs.Grammar.{may_delimit};
 ghost use Rattle.rj_csv_io.specs.Ambiguous.{AreApart, AreClear};
 ghost use Rattle.rj_csv_io.specs.Cuts.{has_bom};
 ghost use Rattle.rj_csv_io.specs.RoundTrips.{CanReadBack, IsHeld, IsNoneOf};

@@ -2,6 +2,9 @@
 //! rows as CSV, and has the devices that bytes come from and go to.
 //!
 //! `read_of` defines what [`read_table`] answers, and `table_text` what [`write_rows`] writes.
+//!
+//! [`strict`] tells whether RFC 4180's grammar derives a text. [`names`] has the names of a header,
+//! and gives names to columns that lack one.
 #![tactic(auto)]
 
 mod ambiguous;
@@ -15,6 +18,7 @@ mod format;
 mod header;
 mod input;
 mod laws;
+pub mod names;
 mod null_text;
 mod output;
 mod part;
@@ -27,6 +31,7 @@ mod read_whole;
 mod records;
 mod refused;
 mod stretches;
+pub mod strict;
 mod text;
 mod texts;
 mod write;

@@ -1,8 +1,8 @@
 //! Devices that take bytes.
 
-ghost use Rattle.std.specs.Prelude.{◌≡◌, ◌<◌, ◌+◌, ◌-◌, ◌^◌, ℕ, List, Option, None, OnOk, OnErr};
+ghost use Rattle.std.specs.Prelude.{◌≡◌, ℕ, List, Option, None, OnOk, OnErr};
 ghost use Rattle.std.specs.Io.KnownBytes.{Appends, Keeps};
-ghost use Rattle.rj_csv_io.specs.Devices.{writer_of, write_failures_of};
+ghost use Rattle.rj_csv_io.specs.Devices.{after_failure, write_failures_of, writer_of};
 
 use std::io::{ErrorKind, Write};
 
@@ -22,13 +22,12 @@ pub trait Output {
     ///
     /// # Errors
     ///
-    /// `Failed` if the device failed. This adds one to the count of failures. How many of the bytes
+    /// `Failed` if the device failed. This adds one to the count of failures, as far as 64 bits count. How many of the bytes
     /// it took is unknown then.
     fn put(&mut self, bytes: &[u8]) -> Result<(), Failed>
-        requires { count self.old < 2 ^ 64 - 1 }
         ensures ok { OnOk result (Appends (told self.old) (told self.new) bytes.now) }
         ensures kept { OnOk result (count self.new ≡ count self.old) }
-        ensures failed { OnErr result (count self.new ≡ count self.old + 1) };
+        ensures failed { OnErr result (count self.new ≡ after_failure (count self.old)) };
 
     /// How often it has failed so far.
     fn failures(&self) -> u64
@@ -124,7 +123,7 @@ impl<W: Write> Output for CountedWriter<W> {
         match write_through(&mut self.writer, bytes) {
             Ok(()) => Ok(()),
             Err(Failed) => {
-                self.failures += 1;
+                self.failures = self.failures.saturating_add(1);
                 Err(Failed)
             }
         }

@@ -11,9 +11,9 @@ use crate::format::InputFormat;
 use crate::header::{begin_table, likely_rows, open_reader};
 use crate::read_rows::{MAX_ROWS, next_record, rows_of_reader};
 use crate::refused::ReadRefused;
+use crate::strict::Delimiter;
 use csv::{ByteRecord, Reader};
 use rj_columns::{ColumnType, Table};
-use rj_strict::Delimiter;
 use std::alloc::Global;
 
 /// The first record of a text, if it has one.

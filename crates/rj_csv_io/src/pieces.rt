@@ -2,7 +2,7 @@
 
 ghost use Rattle.std.specs.Prelude.{◌≡◌, ◌≢◌, ◌∷◌, [], List, ℕ, length, IfOk, IfErr, MatchOption, Ok, Err, Some, map};
 ghost use Rattle.csv.specs.Reading.{records, strip_bom};
-ghost use Rattle.rj_strict.specs.Reading.{config_of};
+ghost use Rattle.rj_csv_io.specs.StrictReading.{config_of};
 ghost use Rattle.rj_columns.specs.Names.{empty_table};
 ghost use Rattle.rj_columns.specs.declared.refused.BuildRefused.{BuildRefused};
 ghost use Rattle.rj_csv_io.specs.Cuts.{records_in};
@@ -16,9 +16,9 @@ use crate::format::InputFormat;
 use crate::header::{begin_table, fields_of_record};
 use crate::part::{header_of, read_part};
 use crate::refused::ReadRefused;
+use crate::strict::Delimiter;
 use csv::ByteRecord;
 use rj_columns::{ColumnType, Table};
-use rj_strict::Delimiter;
 use std::alloc::{AllocError, Global};
 
 /// The first record of a file, which names the columns of its rows.

@@ -9,11 +9,11 @@ ghost use Rattle.rj_csv_io.specs.Written.{HasWritten};
 
 use crate::block::{BLOCK_ROWS, RowBlock, next_block, no_rows};
 use crate::format::OutputFormat;
+use crate::strict::Delimiter;
 use crate::text::{close_text, end_record, open_text, write_cell, write_field};
 use csv::Writer;
 use rj_columns::RowSource;
-use rj_decimal::DecimalBuffer;
-use rj_strict::Delimiter;
+use rj_columns::decimal::DecimalBuffer;
 use std::alloc::{AllocError, Global};
 
 /// The most bytes of room that a text reserves before it has grown to them.

@@ -12,7 +12,7 @@ use crate::range::{TEXT_ROWS, write_row};
 use crate::text::{open_text, settle};
 use csv::{ByteRecord, Writer};
 use rj_columns::RowSource;
-use rj_decimal::DecimalBuffer;
+use rj_columns::decimal::DecimalBuffer;
 use std::alloc::{AllocError, Global};
 use std::marker::Model;
 

@@ -2,15 +2,15 @@
 
 ghost use Rattle.std.specs.Prelude.{◌≡◌, ◌==◌, ◌<◌, ◌≤◌, ◌-◌, ◌++◌, ℕ, List, true, false, length, take, drop, slice_index};
 ghost use Rattle.csv.specs.Reading.{records};
-ghost use Rattle.rj_strict.specs.Grammar.{may_delimit};
-ghost use Rattle.rj_strict.specs.Reading.{config_of};
+ghost use Rattle.rj_csv_io.specs.Grammar.{may_delimit};
+ghost use Rattle.rj_csv_io.specs.StrictReading.{config_of};
 ghost use Rattle.rj_csv_io.specs.declared.place.ReaderPlace.TheVariants as from;
 ghost use Rattle.rj_csv_io.specs.Cuts.{place_after};
 ghost use Rattle.rj_csv_io.specs.Pieces.{IsLastEnd};
 
 use crate::place::{ReaderPlace, is_open, scan};
+use crate::strict::Delimiter;
 use memchr::{memchr, memrchr};
-use rj_strict::Delimiter;
 
 // The end of the stretch that begins here: after its first double quote, or the text's end.
 fn stretch_end(text: &[u8], at: usize) -> usize

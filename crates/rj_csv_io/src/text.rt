@@ -6,11 +6,11 @@ ghost use Rattle.rj_columns.specs.Contents.{content_of};
 ghost use Rattle.rj_csv_io.specs.Shown.{shown, writer_of};
 ghost use Rattle.rj_csv_io.specs.Written.{HasWritten};
 
+use crate::strict::Delimiter;
 use csv::{Writer, WriterBuilder};
 use itoa::Buffer;
 use rj_columns::Cell;
-use rj_decimal::DecimalBuffer;
-use rj_strict::Delimiter;
+use rj_columns::decimal::DecimalBuffer;
 use std::alloc::AllocError;
 
 /// A writer after a text, with this delimiter.

@@ -1,17 +1,18 @@
 //! Texts of rows that are made first, and written under a header later.
 
-ghost use Rattle.std.specs.Prelude.{◌≡◌, ◌≢◌, ◌<◌, ◌+◌, ◌++◌, ◌-◌, ◌^◌, Err, map, IfOk, OnOk, OnErr};
+ghost use Rattle.std.specs.Prelude.{◌≡◌, ◌≢◌, ◌++◌, Err, map, IfOk, OnOk, OnErr};
 ghost use Rattle.std.specs.Io.KnownBytes.{Appends};
 ghost use Rattle.std.specs.List.{concat};
 ghost use Rattle.csv.specs.Writing.{row_text};
+ghost use Rattle.rj_csv_io.specs.Devices.{after_failure};
 ghost use Rattle.rj_csv_io.specs.Shown.{rows_text, shown, writer_of};
 
 use crate::format::OutputFormat;
 use crate::output::{Failed, Output};
 use crate::range::{text_of_header, texts_of_range};
+use crate::strict::Delimiter;
 use crate::write::WriteRefused;
 use rj_columns::RowSource;
-use rj_strict::Delimiter;
 use std::alloc::{AllocError, Global};
 
 /// The records of a source's rows, without a header, as [`write_rows`] writes them, in consecutive
@@ -35,10 +36,9 @@ pub fn texts_of_rows<S: RowSource>(
 
 // Puts texts one after the other, up to the first that fails.
 fn put_all<O: Output>(output: &mut O, texts: &[Vec<u8>]) -> Result<(), Failed>
-    requires { O.count output.old < 2 ^ 64 - 1 }
     ensures ok { OnOk result (Appends (O.told output.old) (O.told output.new) (concat (map (λ t. t.items) texts.now))) }
     ensures kept { OnOk result (O.count output.new ≡ O.count output.old) }
-    ensures failed { OnErr result (O.count output.new ≡ O.count output.old + 1) }
+    ensures failed { OnErr result (O.count output.new ≡ after_failure (O.count output.old)) }
 {
     for i in 0..texts.len() {
         output.put(texts[i].as_slice())?;
@@ -48,10 +48,9 @@ fn put_all<O: Output>(output: &mut O, texts: &[Vec<u8>]) -> Result<(), Failed>
 
 // Puts a text and then others, up to the first that fails.
 fn put_under<O: Output>(output: &mut O, header: &[u8], texts: &[Vec<u8>]) -> Result<(), Failed>
-    requires { O.count output.old < 2 ^ 64 - 1 }
     ensures ok { OnOk result (Appends (O.told output.old) (O.told output.new) (header.now ++ concat (map (λ t. t.items) texts.now))) }
     ensures kept { OnOk result (O.count output.new ≡ O.count output.old) }
-    ensures failed { OnErr result (O.count output.new ≡ O.count output.old + 1) }
+    ensures failed { OnErr result (O.count output.new ≡ after_failure (O.count output.old)) }
 {
     output.put(header)?;
     put_all(output, texts)
@@ -74,11 +73,10 @@ pub fn write_texts<O: Output>(
     texts: &[Vec<u8>],
     delimiter: Delimiter,
 ) -> Result<(), WriteRefused>
-    requires failures { O.count output.old < 2 ^ 64 - 1 }
     ensures ok { OnOk result (Appends (O.told output.old) (O.told output.new)
         (row_text (writer_of delimiter) (map (λ n. n.now) header.now) ++ concat (map (λ t. t.items) texts.now))) }
     ensures memory { result ≡ Err WriteRefused.Memory → output.new ≡ output.old }
-    ensures device { result ≡ Err WriteRefused.WriteDevice → O.count output.new ≡ O.count output.old + 1 }
+    ensures device { result ≡ Err WriteRefused.WriteDevice → O.count output.new ≡ after_failure (O.count output.old) }
     ensures kept { result ≢ Err WriteRefused.WriteDevice → O.count output.new ≡ O.count output.old }
 {
     let Ok(text) = text_of_header(alloc, header, delimiter) else {

@@ -1,7 +1,8 @@
 //! Writing a header and the rows of a source.
 
-ghost use Rattle.std.specs.Prelude.{◌≡◌, ◌≢◌, ◌<◌, ◌+◌, ◌^◌, ◌-◌, map, length, IsTrue, OnOk, IfOk};
+ghost use Rattle.std.specs.Prelude.{◌≡◌, ◌≢◌, map, length, IsTrue, OnOk, IfOk};
 ghost use Rattle.std.specs.Io.KnownBytes.{Appends};
+ghost use Rattle.rj_csv_io.specs.Devices.{after_failure};
 ghost use Rattle.rj_csv_io.specs.Shown.{table_text};
 ghost use Rattle.rj_csv_io.specs.Tables.{is_null_text};
 
@@ -52,11 +53,10 @@ pub fn write_rows<O: Output, S: RowSource>(
 ) -> Result<(), WriteRefused>
     requires header { length header.now ≡ S.width source.now }
     requires null { IsTrue (is_null_text format.now.null.now) }
-    requires failures { O.count output.old < 2 ^ 64 - 1 }
     ensures ok { OnOk result (Appends (O.told output.old) (O.told output.new)
         (table_text format.now.delimiter format.now.null.now (map (λ n. n.now) header.now) (S.contents source.now))) }
     ensures memory { result ≡ Err WriteRefused.Memory → output.new ≡ output.old }
-    ensures device { result ≡ Err WriteRefused.WriteDevice → O.count output.new ≡ O.count output.old + 1 }
+    ensures device { result ≡ Err WriteRefused.WriteDevice → O.count output.new ≡ after_failure (O.count output.old) }
     ensures kept { result ≢ Err WriteRefused.WriteDevice → O.count output.new ≡ O.count output.old }
 {
     let Ok(text) = text_of_rows(alloc, header, source, format) else {

@@ -4,7 +4,7 @@ use Rattle.std.specs.Prelude.{if◌then◌else◌}
 use Rattle.std.specs.List.{range_with_len}
 use Rattle.std.proofs.lemmas.List.{map-append}
 use Rattle.std.proofs.lemmas.List.Elements.{filter-append}
-use Rattle.rj_engine.proofs.Pairs.{range_more}
+use Rattle.rj_hashjoin.proofs.Runs.{range_more}
 use Rattle.rj_engine.specs.declared.origin.Origin.{Origin}
 
 one : (made : ℕ → Origin) (wanted : ℕ → Bool) (n : ℕ) (b : Bool) → b ≡ wanted n → map made (filter wanted (n ∷ [])) ≡ (if b then made n ∷ [] else [])

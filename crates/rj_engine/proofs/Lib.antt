@@ -1,4 +1,3 @@
-pub mod Pairs
 pub mod Marked
 pub mod Members
 pub mod Grouped

@@ -2,10 +2,8 @@
 #![tactic(auto)]
 
 mod cells;
-mod choices;
 mod chosen_columns;
 mod chosen_rows;
-mod closes;
 mod collecting;
 mod counts;
 mod ends;
@@ -13,10 +11,9 @@ mod expected;
 mod gathering;
 mod groups;
 mod joined;
+mod laws;
 mod marks;
 mod naming;
-mod nested_loops;
-mod once;
 mod origin;
 mod parallel_join;
 mod partitioned_join;
@@ -32,20 +29,18 @@ mod sizes;
 mod view;
 mod violations;
 
-pub use choices::{chosen_names_are_lawful, left_order, plain_choice};
-pub use closes::nothing_after_close;
 pub use counts::{Counts, early_counts, rows_beyond};
 pub use ends::right_rows;
 pub use expected::is_as_expected;
 pub use gathering::gather;
 pub use groups::{Group, KeyReport};
 pub use joined::{Joined, JoinedRow, Rows};
-pub use marks::unmatched;
-pub use naming::{
-    NamingRefused, chosen_names, header_names_are_lawful, written_names, written_names_are_lawful,
+pub use laws::{
+    chosen_names_are_lawful, header_names_are_lawful, keyed_rows_stand_once, left_order,
+    nothing_after_close, plain_choice, written_names_are_lawful,
 };
-pub use nested_loops::nested_loop;
-pub use once::keyed_rows_stand_once;
+pub use marks::unmatched;
+pub use naming::{NamingRefused, chosen_names, written_names};
 pub use partitions::run_join;
 pub use reporting::{JoinReport, report};
 pub use rj_settings::{

@@ -1,15 +1,12 @@
 //! The names under which the columns of a joined table are written.
 
-ghost use Rattle.std.specs.Prelude.{◌≡◌, ◌≢◌, ◌<◌, ◌++◌, [], ◌∷◌, All, IfErr, IfOk, List, OnOk, Err, None, Ok, ℕ};
-ghost use Rattle.std.specs.Prelude.{false, length, map, option_map, slice_index_or, string_bytes, take, true};
+ghost use Rattle.std.specs.Prelude.{◌≡◌, ◌≢◌, ◌<◌, ◌++◌, [], ◌∷◌, IfErr, IfOk, OnOk, Err, Ok};
+ghost use Rattle.std.specs.Prelude.{length, map, option_map, slice_index_or, string_bytes, true};
 ghost use Rattle.std.specs.Str.{str_eq_ignore_ascii_case};
-ghost use Rattle.rj_columns.specs.Names.{is_name, name_fault};
-ghost use Rattle.rj_columns.specs.Tables.{TableValue};
+ghost use Rattle.rj_columns.specs.Names.{is_name};
 ghost use Rattle.rj_condition.specs.Fits.{fits};
-ghost use Rattle.rj_condition.specs.declared.bound.BoundJoin.{BoundJoin};
-ghost use Rattle.rj_settings.specs.declared.choice.Repeated.{Repeated};
-ghost use Rattle.rj_engine.specs.Cells.{IsColumnOf, header_of, name_of};
-ghost use Rattle.rj_engine.specs.Naming.{HasLawfulNames, free_name, is_among, is_free, next_name, renamed, with_mark, written_names};
+ghost use Rattle.rj_engine.specs.Cells.{IsColumnOf, name_of};
+ghost use Rattle.rj_engine.specs.Naming.{free_name, is_among, is_free, next_name, renamed, with_mark, written_names};
 ghost use Rattle.rj_engine.specs.Naming.{chosen_names, if_free, name_of_entry, new_or_own, selected_names};
 
 use crate::chosen_columns::column_of_entry;
@@ -309,20 +306,3 @@ pub fn chosen_names(
         }
     }
 }
-
-/// If repeated names are renamed, the written names are those of a table: a file with them as its
-/// header is never refused for its names. They are as many as the header's, and a name that doesn't
-/// repeat an earlier one stays unchanged.
-pub fn written_names_are_lawful()
-    ensures many { (repeated : Repeated) (header names : List (List ℕ)) → written_names repeated header ≡ Ok names → length names ≡ length header }
-    ensures lawful { (repeated : Repeated) (header names : List (List ℕ)) → repeated ≢ Repeated.Kept → All (λ n. is_name n ≡ true) header
-        → written_names repeated header ≡ Ok names → name_fault [] names ≡ None }
-    ensures own { (repeated : Repeated) (header names : List (List ℕ)) (column : ℕ) → written_names repeated header ≡ Ok names → column < length header
-        → is_among (take column header) (slice_index_or header column []) ≡ false → slice_index_or names column [] ≡ slice_index_or header column [] }
-{}
-
-/// Each name of a joined table's columns is valid if the names of its two tables are.
-pub fn header_names_are_lawful()
-    ensures { (join : BoundJoin) (l r : TableValue) → fits join l.types r.types ≡ true → HasLawfulNames l → HasLawfulNames r
-        → All (λ n. is_name n ≡ true) (header_of join l r) }
-{}

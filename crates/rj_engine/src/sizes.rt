@@ -3,7 +3,7 @@
 ghost use Rattle.std.specs.Prelude.{◌≡◌, ◌<◌, ◌≤◌, ◌+◌, ◌-◌, ◌^◌, All, IfOk, length, map, min};
 ghost use Rattle.rj_engine.specs.Partitioned.{rows_from};
 
-use rj_ledger::Ledger;
+use rj_exchange::ledger::Ledger;
 use std::alloc::{AllocError, Global};
 
 /// How many rows this many senders from the first delivered, or 2^64 - 1 if there are more.

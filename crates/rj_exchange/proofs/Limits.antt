@@ -5,8 +5,8 @@ use Rattle.std.proofs.lemmas.List.Elements.{All-nil, All-cons, All-head, All-tai
 use mathlib.Core.Option.{some, some-injective, some-ne-none}
 use lib.ListN.{get_elem?}
 use Rattle.crossbeam_queue.specs.Fifo.{Held}
-use Rattle.rj_ledger.specs.declared.parcel.Parcel.{Parcel}
-use Rattle.rj_ledger.specs.declared.parcel.Body.TheVariants.{Close}
+use Rattle.rj_exchange.specs.declared.ledger.parcel.Parcel.{Parcel}
+use Rattle.rj_exchange.specs.declared.ledger.parcel.Body.TheVariants.{Close}
 use Rattle.rj_exchange.specs.declared.posted.Posted.{Posted}
 use Rattle.rj_exchange.specs.declared.queue.Where.{Where}
 use Rattle.rj_exchange.specs.declared.queue.Trace.{Trace}

@@ -172,6 +172,7 @@ gains_one old new s x is =
       λ h. elim h [ inl o ↦ omega arith | inr e ↦ (let z : here x s ≡ 1 = ap (here x) (sym e) ∙ here_same x in omega arith) ],
     )
 
+-- a number that is drawn and then put back leaves each number held as often as before
 pub put_back_undoes : (xs : List ℕ) (s x : ℕ) → times x (without s (xs ++ s ∷ [])) ≡ times x xs
 put_back_undoes xs s x =
     let u = total-snoc (here x) xs s in

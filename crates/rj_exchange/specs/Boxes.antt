@@ -6,7 +6,7 @@ use Rattle.crossbeam_queue.specs.Fifo.{Held}
 use Rattle.crossbeam_queue.specs.declared.array_queue.Doing.{Doing}
 use Rattle.crossbeam_queue.specs.declared.array_queue.Slotted.{Slotted}
 use Rattle.crossbeam_queue.specs.declared.array_queue.Turns.{Turns}
-use Rattle.rj_ledger.specs.declared.parcel.Parcel.{Parcel}
+use Rattle.rj_exchange.specs.declared.ledger.parcel.Parcel.{Parcel}
 use Rattle.rj_exchange.specs.declared.posted.Posted.{Posted}
 use Rattle.rj_exchange.specs.declared.queue.Where.{Where}
 use Rattle.rj_exchange.specs.declared.queue.Trace.{Trace}
@@ -102,28 +102,6 @@ WasEmpty e i k = Held 0 (Left (known_at_lane e i k))
 abbrev pub TakesOneMore : Exchange → ℕ → Parcel → Inbox → Inbox → Type 0
 TakesOneMore e k x old new = (o : ℕ) × (taken_by_lane new ≡ slice_set (taken_by_lane old) k (slice_index_or (taken_by_lane old) k [] ++ posted_by o x ∷ []))
     × Belongs (where_at e old.partition k) (posted_by o x) × Next (known_at_lane e old k) (posted_by o x)
-
--- outbox number n, and the inbox of partition p
-abbrev pub IsOutboxAt : Exchange → ℕ → Outbox → Type 0
-IsOutboxAt e n o = IsOutboxOf e o × (o.number ≡ n)
-
-abbrev pub IsInboxAt : Exchange → ℕ → Inbox → Type 0
-IsInboxAt e p i = IsInboxOf e i × (i.partition ≡ p)
-
--- all outboxes of the exchange, by number
-abbrev pub AreAllOutboxes : Exchange → List Outbox → Type 0
-AreAllOutboxes e os = (length os ≡ e.outboxes) × ((o : ℕ) (d : Outbox) → o < e.outboxes → IsOutboxAt e o (slice_index_or os o d))
-
--- the stubs that outboxes leave for partition p, by outbox, then lane
-pub record AreStubsLeftAt (e : Exchange) (p : ℕ) (os : List Outbox) (ss : List Stub) : Type 0 where
-  pub many : length ss ≡ e.outboxes * e.lanes
-  pub each : (o k : ℕ) (d : Outbox) (s : Stub) → o < e.outboxes → k < e.lanes
-      → slice_index_or ss (o * e.lanes + k) s ≡ slice_index_or (slice_index_or os o d).stubs.items (p * e.lanes + k) s
-
--- the stubs that one outbox leaves for partition p, lane by lane
-pub record AreStubsLeftBy (e : Exchange) (p : ℕ) (o : Outbox) (ss : List Stub) : Type 0 where
-  pub many : length ss ≡ e.lanes
-  pub each : (k : ℕ) (s : Stub) → k < e.lanes → slice_index_or ss k s ≡ slice_index_or o.stubs.items (p * e.lanes + k) s
 
 -- the tokens of a partition's queues from all outboxes, by outbox, then lane
 pub record AreStubsOf (e : Exchange) (p : ℕ) (ss : List Stub) : Type 0 where

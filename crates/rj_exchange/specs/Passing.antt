@@ -2,7 +2,7 @@
 use Rattle.std.specs.Prelude.{◌≡◌, ◌≢◌, ℕ, ◌<◌, ◌≤◌, ◌%◌, ◌==◌, true, false, cond, List, [], ◌∷◌, ◌++◌, length, slice_index_or, All}
 use mathlib.Core.Option.{some}
 use lib.ListN.{get_elem?}
-use Rattle.rj_ledger.specs.declared.parcel.Parcel.{Parcel}
+use Rattle.rj_exchange.specs.declared.ledger.parcel.Parcel.{Parcel}
 use Rattle.rj_exchange.specs.declared.posted.Posted.{Posted}
 use Rattle.rj_exchange.specs.declared.queue.Where.{Where}
 use Rattle.rj_exchange.specs.declared.queue.Trace.{Trace}

@@ -3,10 +3,10 @@ ghost use Rattle.std.specs.Prelude.{◌≡◌, ◌≤◌, ◌*◌, length, All};
 ghost use Rattle.std.proofs.Props.{props};
 ghost use Rattle.crossbeam_queue.specs.Passes.{ruled_capacity};
 
+use crate::ledger::Parcel;
 use crate::posted::Posted;
 use crate::queue::{ParcelQueue, Trace};
 use crossbeam_queue::Pass;
-use rj_ledger::Parcel;
 
 mod calls;
 mod ends;

@@ -8,12 +8,15 @@
 //! what the rule says of them together.
 //!
 //! Every call needs boxes, stubs and seats that were opened with the value with which they are
-//! used. The functions of `laws` do nothing; their contracts are theorems that callers use.
+//! used. The functions of `laws` do nothing; their contracts are theorems.
+//!
+//! [`ledger`] has parcels, and what a partition accepts, holds back and refuses of them.
 #![tactic(auto)]
 
 mod boxes;
 mod halt;
 mod laws;
+pub mod ledger;
 mod posted;
 mod queue;
 mod stripes;
@@ -21,10 +24,7 @@ mod tickets;
 
 pub use boxes::{Exchange, Finished, Full, Inbox, Outbox, Stub};
 pub use halt::{Halt, HaltSeat};
-pub use laws::{
-    all_sent_holds, full_alone, heard_of_none, holder, put_back_undoes, stubs_by_partition,
-    stubs_of_one,
-};
+pub use laws::{full_alone, heard_of_none, holder};
 pub use posted::Posted;
 pub use stripes::{StripeSeat, Stripes};
 pub use tickets::{Seat, Tickets};

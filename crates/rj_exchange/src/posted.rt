@@ -1,5 +1,5 @@
 //! The content of a queue.
-use rj_ledger::Parcel;
+use crate::ledger::Parcel;
 
 /// A parcel with the number of the outbox that posted it.
 #[derive(Drop)]

@@ -1,9 +1,9 @@
 //! One queue of parcels. Its rule: what was taken, and then what it holds, interleaves what each
 //! outbox posted.
+use crate::ledger::Parcel;
 use crate::posted::Posted;
 use crossbeam_queue::protocol::{Join, Lesson, Outcome, Protocol, Split};
 use crossbeam_queue::{Pass, RuledArrayQueue};
-use rj_ledger::Parcel;
 use std::collections::LinkedList;
 use std::marker::{Brand, PhantomData};
 

@@ -10,7 +10,7 @@ use Rattle.std.proofs.lemmas.List.Elements.{All-cons, All-nil, All-same}
 use Rattle.std.proofs.lemmas.List.Sums.{sum_by-cons}
 use Rattle.std.proofs.lemmas.Str.{IsCharBoundary-before_ascii, IsCharBoundary-end}
 use Rattle.std.proofs.Math.Seq.{drop-append_seam, drop-length, take-append_seam}
-use Rattle.rj_types.specs.Words.{before, text_of}
+use Rattle.rj_settings.specs.Words.{before, text_of}
 use Rattle.rj_explain.specs.Entries.{begun, entries_behind, split_entries, entry_length, further, is_nested, is_quoted, separates}
 use Rattle.rj_explain.specs.Listed.{IsFirstBad, IsList, IsNoList}
 

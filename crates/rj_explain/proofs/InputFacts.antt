@@ -3,9 +3,9 @@ use Rattle.std.proofs.Common.{◌≡◌, ◌∙◌, ℕ, List, [], ◌∷◌, ap
 use Rattle.std.specs.Prelude.{MatchOption, Option, None, Some, false}
 use Rattle.rj_csv_io.specs.Pieces.{names_in}
 use Rattle.rj_csv_io.specs.declared.pieces.Header.{Header}
-use Rattle.rj_strict.specs.Faults.{AreAbove}
-use Rattle.rj_strict.specs.Grammar.{Derives, Line, lines_text}
-use Rattle.rj_strict.specs.declared.header.Header.TheVariants.{First}
+use Rattle.rj_csv_io.specs.StrictFaults.{AreAbove}
+use Rattle.rj_csv_io.specs.Grammar.{Derives, Line, lines_text}
+use Rattle.rj_csv_io.specs.declared.strict.header.HeaderPlace.TheVariants.{First}
 use Rattle.rj_explain.specs.Explained.{first_record, names_of}
 
 -- lines above a row are a file

@@ -10,9 +10,9 @@ use Rattle.csv.specs.declared.parser.State.TheVariants as st
 use Rattle.csv.specs.declared.parser.Action.{Action}
 use Rattle.csv.specs.Machine.{Read, next_record, step, in_field, start_field, ends_with, ends_at_end, is_end, fields_after, field_after}
 use Rattle.csv.specs.Reading.{Reached, records, records_from, records_next}
-use Rattle.rj_strict.specs.Reading.{config_of}
-use Rattle.rj_header.specs.Ends.{behind_first}
-use Rattle.rj_header.proofs.EndFacts.{EndsAs, IsLineEnd, at-end, at-line, ends-as}
+use Rattle.rj_csv_io.specs.StrictReading.{config_of}
+use Rattle.rj_csv_io.specs.NameEnds.{behind_first}
+use Rattle.rj_csv_io.proofs.NameEndFacts.{EndsAs, IsLineEnd, at-end, at-line, ends-as}
 use Rattle.rj_explain.specs.Places.{EndsFirst, HasNoRow, IsBetween, IsRow, StandsAt, at_column, first_byte, is_line_end, line_of}
 
 -- a reader behind a CR reads on as one before a record

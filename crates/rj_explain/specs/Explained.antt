@@ -22,22 +22,22 @@ use Rattle.rj_condition.specs.declared.tree.Clause.{Clause}
 use Rattle.rj_csv_io.specs.Pieces.{names_in}
 use Rattle.rj_csv_io.specs.declared.pieces.Header.{Header}
 use Rattle.rj_engine.specs.Naming.{chosen_names, name_of_entry}
-use Rattle.rj_fault.specs.declared.fault.Fault.{Fault}
-use Rattle.rj_fault.specs.declared.fault.Fault.TheVariants as fault
-use Rattle.rj_fault.specs.declared.fault.Side.{Side}
-use Rattle.rj_fault.specs.declared.fault.Side.TheVariants as side
+use Rattle.rj_line.specs.declared.fault.Fault.{Fault}
+use Rattle.rj_line.specs.declared.fault.Fault.TheVariants as fault
+use Rattle.rj_line.specs.declared.fault.Side.{Side}
+use Rattle.rj_line.specs.declared.fault.Side.TheVariants as side
 use Rattle.rj_line.specs.declared.request.Request.{Request}
 use Rattle.rj_line.specs.declared.request.Strictness.{Strictness}
 use Rattle.rj_line.specs.declared.request.Strictness.TheVariants as strictness
-use Rattle.rj_strict.specs.Faults.{AreAbove, HasFault, row_at}
-use Rattle.rj_strict.specs.Grammar.{Derives, File, file_text}
-use Rattle.rj_strict.specs.Reading.{body_of, config_of, quoted}
+use Rattle.rj_csv_io.specs.StrictFaults.{AreAbove, HasFault, row_at}
+use Rattle.rj_csv_io.specs.Grammar.{Derives, File, file_text}
+use Rattle.rj_csv_io.specs.StrictReading.{body_of, config_of, quoted}
 use Rattle.rj_settings.specs.declared.choice.SelectedColumn.{SelectedColumn}
-use Rattle.rj_strict.specs.declared.fault.StrictFault.{StrictFault}
-use Rattle.rj_strict.specs.declared.header.Header.TheVariants.{First}
-use Rattle.rj_types.specs.Columns.{kind_of, text_of_rest, types_under}
-use Rattle.rj_types.specs.Lists.{is_place}
-use Rattle.rj_types.specs.declared.entry.TypeEntry.{TypeEntry}
+use Rattle.rj_csv_io.specs.declared.strict.fault.StrictFault.{StrictFault}
+use Rattle.rj_csv_io.specs.declared.strict.header.HeaderPlace.TheVariants.{First}
+use Rattle.rj_settings.specs.Columns.{kind_of, text_of_rest, types_under}
+use Rattle.rj_settings.specs.Lists.{is_place}
+use Rattle.rj_settings.specs.declared.types.entry.TypeEntry.{TypeEntry}
 use Rattle.rj_explain.specs.declared.inputs.Inputs.{Inputs}
 use Rattle.rj_explain.specs.declared.inputs.TableFile.{TableFile}
 use Rattle.rj_explain.specs.Hints.{file_line, file_side, file_words, separator_line}

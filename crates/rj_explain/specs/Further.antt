@@ -2,11 +2,11 @@
 use Rattle.std.specs.Prelude.{ℕ, suc, ◌≡◌, ◌<◌, ◌≤◌, ◌⊎◌, ◌+◌, ◌-◌, Bool, false, true, is_none, List, [], ◌∷◌, ◌++◌, codes, decimal, MatchOption, Option, None, Some, slice_get}
 use Rattle.rj_columns.specs.declared.cell.ColumnType.{ColumnType}
 use Rattle.rj_csv_io.specs.Typed.{null_texts, read_cell}
-use Rattle.rj_fault.specs.declared.fault.Fault.{Fault}
-use Rattle.rj_fault.specs.declared.fault.Fault.TheVariants as fault
-use Rattle.rj_fault.specs.declared.fault.Side.{Side}
-use Rattle.rj_fault.specs.declared.fault.Side.TheVariants as side
-use Rattle.rj_types.specs.Columns.{types_under}
+use Rattle.rj_line.specs.declared.fault.Fault.{Fault}
+use Rattle.rj_line.specs.declared.fault.Fault.TheVariants as fault
+use Rattle.rj_line.specs.declared.fault.Side.{Side}
+use Rattle.rj_line.specs.declared.fault.Side.TheVariants as side
+use Rattle.rj_settings.specs.Columns.{types_under}
 use Rattle.rj_explain.specs.Explained.{IsTextOf, delimiter_of, side_file, types_of}
 use Rattle.rj_explain.specs.Places.{HasNoRow, IsRow, at_column}
 use Rattle.rj_explain.specs.Shown.{shown}

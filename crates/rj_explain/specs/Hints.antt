@@ -1,10 +1,10 @@
 -- What is said of a whole file that is no CSV in UTF-8 with its delimiter.
 use Rattle.std.specs.Prelude.{ℕ, Bool, false, ◌==◌, ◌||◌, ◌&&◌, not, List, [], ◌∷◌, ◌++◌, codes, nat_eq, Option, None, Some, if◌then◌else◌}
 use Rattle.std.specs.List.{list_any, starts_with}
-use Rattle.rj_fault.specs.declared.fault.Fault.{Fault}
-use Rattle.rj_fault.specs.declared.fault.Fault.TheVariants as fault
-use Rattle.rj_fault.specs.declared.fault.Side.{Side}
-use Rattle.rj_fault.specs.declared.fault.Side.TheVariants as side
+use Rattle.rj_line.specs.declared.fault.Fault.{Fault}
+use Rattle.rj_line.specs.declared.fault.Fault.TheVariants as fault
+use Rattle.rj_line.specs.declared.fault.Side.{Side}
+use Rattle.rj_line.specs.declared.fault.Side.TheVariants as side
 use Rattle.rj_explain.specs.Shown.{is_text}
 use Rattle.rj_explain.specs.declared.hints.Separator.{Separator}
 use Rattle.rj_explain.specs.declared.hints.Separator.TheVariants as separator

@@ -4,10 +4,10 @@ use Rattle.std.specs.List.{filter_map, flat_map, position_from}
 use Rattle.std.specs.Str.{str_eq_ignore_ascii_case}
 use Rattle.rj_columns.specs.declared.cell.ColumnType.{ColumnType}
 use Rattle.rj_condition.specs.declared.refusals.RefusedColumn.{RefusedColumn}
-use Rattle.rj_fault.specs.Faults.{side_text}
-use Rattle.rj_fault.specs.declared.fault.Side.{Side}
-use Rattle.rj_types.specs.Columns.{types_under}
-use Rattle.rj_types.specs.declared.entry.TypeEntry.{TypeEntry}
+use Rattle.rj_line.specs.Faults.{side_text}
+use Rattle.rj_line.specs.declared.fault.Side.{Side}
+use Rattle.rj_settings.specs.Columns.{types_under}
+use Rattle.rj_settings.specs.declared.types.entry.TypeEntry.{TypeEntry}
 use Rattle.rj_explain.specs.Places.{at_column}
 use Rattle.rj_explain.specs.Shown.{listed, names_text, shown, wanted_rule, wanted_word}
 

@@ -2,12 +2,12 @@
 use Rattle.std.specs.Prelude.{ℕ, ◌≡◌, ◌+◌, ◌⊎◌, All, List, [], ◌∷◌, ◌++◌, codes, drop, length, nat_eq, Option, None, Some, if◌then◌else◌, slice_get}
 use Rattle.std.specs.List.{starts_with}
 use Rattle.std.specs.Str.{bytes_eq}
-use Rattle.rj_fault.specs.declared.fault.Fault.{Fault}
-use Rattle.rj_fault.specs.declared.fault.Fault.TheVariants as fault
-use Rattle.rj_fault.specs.declared.fault.Side.{Side}
-use Rattle.rj_fault.specs.declared.fault.Side.TheVariants as side
-use Rattle.rj_types.specs.Lists.{IsTypeList}
-use Rattle.rj_types.specs.declared.entry.TypeEntry.{TypeEntry}
+use Rattle.rj_line.specs.declared.fault.Fault.{Fault}
+use Rattle.rj_line.specs.declared.fault.Fault.TheVariants as fault
+use Rattle.rj_line.specs.declared.fault.Side.{Side}
+use Rattle.rj_line.specs.declared.fault.Side.TheVariants as side
+use Rattle.rj_settings.specs.Lists.{IsTypeList}
+use Rattle.rj_settings.specs.declared.types.entry.TypeEntry.{TypeEntry}
 use Rattle.rj_explain.specs.Entries.{split_entries}
 use Rattle.rj_explain.specs.Lines.{delimiter_rule, entry_line, mixed_line, rows_rule, select_rule, shared_line}
 

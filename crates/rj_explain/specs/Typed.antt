@@ -9,7 +9,7 @@ use Rattle.rj_condition.specs.declared.bound.BoundOperand.{BoundOperand}
 use Rattle.rj_condition.specs.declared.bound.BoundOperand.TheVariants as operand
 use Rattle.rj_condition.specs.declared.tree.Literal.{Literal}
 use Rattle.rj_condition.specs.declared.tree.Literal.TheVariants as literal
-use Rattle.rj_decimal.specs.Written.{text_of}
+use Rattle.rj_columns.specs.NumbersWritten.{text_of}
 use Rattle.rj_explain.specs.Shown as shown
 use Rattle.rj_explain.specs.Shown.{shown_byte, type_word}
 

@@ -11,9 +11,9 @@ use Rattle.rj_condition.specs.declared.refusals.RefusedColumn.{RefusedColumn}
 use Rattle.rj_condition.specs.declared.refused.BindRefused.{BindRefused}
 use Rattle.rj_condition.specs.declared.refused.BindRefused.TheVariants as refused
 use Rattle.rj_condition.specs.declared.tree.Name.{Name}
-use Rattle.rj_fault.specs.Faults.{side_text}
-use Rattle.rj_fault.specs.declared.fault.Side.{Side}
-use Rattle.rj_fault.specs.declared.fault.Side.TheVariants as side
+use Rattle.rj_line.specs.Faults.{side_text}
+use Rattle.rj_line.specs.declared.fault.Side.{Side}
+use Rattle.rj_line.specs.declared.fault.Side.TheVariants as side
 use Rattle.rj_settings.specs.declared.choice.Source.{Source}
 use Rattle.rj_settings.specs.declared.choice.Source.TheVariants as source
 use Rattle.rj_explain.specs.Lines.{both_words}

@@ -2,7 +2,7 @@
 
 ghost use Rattle.std.specs.Prelude.{◌≡◌, ◌-◌, ◌⊎◌, ℕ, IfOk, List, MatchOption, length, slice_get, string_bytes};
 ghost use Rattle.rj_csv_io.specs.Pieces.{names_in};
-ghost use Rattle.rj_types.specs.Columns as columns;
+ghost use Rattle.rj_settings.specs.Columns as columns;
 ghost use Rattle.rj_explain.specs.Explained.{IsCellTold, IsRaggedTold, IsTextOf, file_read};
 ghost use Rattle.rj_explain.specs.Lines as lines;
 ghost use Rattle.rj_explain.specs.Lines.{cell_of_row};
@@ -12,7 +12,7 @@ use crate::inputs::{TableFile, text_of};
 use crate::row::{Row, field_at, find_row};
 use crate::shown::{Shown, Wanted, WantedRule};
 use rj_columns::ColumnType;
-use rj_strict::Delimiter;
+use rj_csv_io::strict::Delimiter;
 use std::alloc::{AllocError, Global};
 
 /// The type of a header's column, counted from 1.

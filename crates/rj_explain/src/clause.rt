@@ -5,7 +5,7 @@ ghost use Rattle.std.specs.List.{list_any};
 ghost use Rattle.std.specs.Option.{option_copied};
 ghost use Rattle.rj_condition.specs.Names.{matches};
 ghost use Rattle.rj_csv_io.specs.Pieces.{names_in};
-ghost use Rattle.rj_fault.specs.declared.fault.Side.TheVariants as sides;
+ghost use Rattle.rj_line.specs.declared.fault.Side.TheVariants as sides;
 ghost use Rattle.rj_explain.specs.Explained.{AreColumns, IsNameTold, IsRefusalTold, IsToldOfName, columns_in, refusal_told, side_names};
 ghost use Rattle.rj_explain.specs.Lines.{clause_line};
 ghost use Rattle.rj_explain.specs.Unknown as unknown;
@@ -20,7 +20,7 @@ use crate::unknown::{
 use rj_columns::Table;
 use rj_condition::{BindRefused, Name, RefusedColumn, Word, refused_column};
 use rj_csv_io::{Header, ReadRefused};
-use rj_fault::Side;
+use rj_line::fault::Side;
 use std::alloc::{AllocError, Global};
 
 // The most bytes of a clause.

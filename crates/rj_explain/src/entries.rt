@@ -1,12 +1,12 @@
 //! The entries of a text that isn't a type list.
 
 ghost use Rattle.std.specs.Prelude.{◌≡◌, ◌==◌, ◌&&◌, ◌||◌, ◌∷◌, [], All, IfOk, List, MatchBool, MatchOption, not, ℕ};
-ghost use Rattle.rj_types.specs.Words as words;
-ghost use Rattle.rj_types.specs.Words.{text_of};
+ghost use Rattle.rj_settings.specs.Words as words;
+ghost use Rattle.rj_settings.specs.Words.{text_of};
 ghost use Rattle.rj_explain.specs.Entries.{IsBehind, split_entries, entry_length, further};
 ghost use Rattle.rj_explain.specs.Listed.{IsFirstBad, IsList, IsNoList};
 
-use rj_types::read_list;
+use rj_settings::types::read_list;
 use std::alloc::{AllocError, Global};
 
 // Whether a place in a list is in double quotes, and whether it is in parentheses.

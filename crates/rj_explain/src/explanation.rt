@@ -17,10 +17,10 @@ use crate::selected::selected_lines;
 use crate::shared::shared_name_lines;
 use crate::strict::grammar_lines;
 use crate::syntax::syntax_lines;
-use rj_fault::{Fault, Side};
+use rj_csv_io::strict::Delimiter;
 use rj_line::Strictness;
-use rj_strict::Delimiter;
-use rj_types::{TypeEntry, with_texts};
+use rj_line::fault::{Fault, Side};
+use rj_settings::types::{TypeEntry, with_texts};
 use std::alloc::{AllocError, Global};
 
 // Why a text isn't of RFC 4180's grammar.

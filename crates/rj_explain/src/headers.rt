@@ -5,8 +5,8 @@ ghost use Rattle.std.specs.List.{find, list_all, position_from};
 ghost use Rattle.std.specs.Option.{option_copied};
 ghost use Rattle.std.specs.Str.{str_eq_ignore_ascii_case};
 ghost use Rattle.rj_csv_io.specs.Pieces.{names_in};
-ghost use Rattle.rj_types.specs.Columns.{kind_of};
-ghost use Rattle.rj_types.specs.Lists.{is_place};
+ghost use Rattle.rj_settings.specs.Columns.{kind_of};
+ghost use Rattle.rj_settings.specs.Lists.{is_place};
 ghost use Rattle.rj_explain.specs.Explained.{IsTypeCountTold, IsTypeNameTold, count_told, file_read, first_untyped, header_names};
 ghost use Rattle.rj_explain.specs.Lines as lines;
 ghost use Rattle.rj_explain.specs.Lines.{repeated_at, repeated_told};
@@ -17,7 +17,7 @@ use crate::names::before_name;
 use crate::row::field_at;
 use crate::shown::Shown;
 use rj_csv_io::Header;
-use rj_types::{Label, TypeEntry, types_under};
+use rj_settings::types::{Label, TypeEntry, types_under};
 use std::alloc::{AllocError, Global};
 
 // The line that shows an invalid name, and its length in bytes.

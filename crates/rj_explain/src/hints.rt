@@ -9,8 +9,8 @@ ghost use Rattle.rj_explain.specs.Shown as spec;
 use crate::inputs::{Inputs, TableFile, header_of};
 use crate::shown::text_in;
 use rj_columns::Table;
-use rj_fault::{Fault, Side};
-use rj_strict::Delimiter;
+use rj_csv_io::strict::Delimiter;
+use rj_line::fault::{Fault, Side};
 use std::alloc::{AllocError, Global};
 
 const GZIP: &str = "is compressed: gzip -dc FILE > table.csv unpacks it";

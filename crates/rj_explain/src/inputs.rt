@@ -4,17 +4,17 @@ ghost use Rattle.std.specs.Prelude.{◌≡◌, IfOk};
 ghost use Rattle.csv.specs.Reading.{strip_bom};
 ghost use Rattle.rj_csv_io.specs.Pieces.{names_in};
 ghost use Rattle.rj_csv_io.specs.Typed.{null_texts};
-ghost use Rattle.rj_types.specs.Columns as columns;
+ghost use Rattle.rj_settings.specs.Columns as columns;
 ghost use Rattle.rj_explain.specs.Explained as explained;
 ghost use Rattle.rj_explain.specs.Explained.{IsQuotedText, IsTextOf, delimiter_of, file_of, file_read, header_names, names_of, text_in, types_of};
 ghost use Rattle.rj_explain.specs.Further.{nulls_of};
 
 use rj_columns::ColumnType;
+use rj_csv_io::strict::{Delimiter, HeaderPlace, above_fault, check, quote_empty_lines};
 use rj_csv_io::{Header as Names, without_bom};
-use rj_fault::Side;
+use rj_line::fault::Side;
 use rj_line::{Request, Strictness};
-use rj_strict::{Delimiter, Header, above_fault, check, quote_empty_lines};
-use rj_types::{TypeEntry, types_under};
+use rj_settings::types::{TypeEntry, types_under};
 use std::alloc::{AllocError, Global};
 
 /// A file of a table, and how it is read.
@@ -149,10 +149,10 @@ impl<'a, 'r> Inputs<'a, 'r> {
 fn quoted_lines(alloc: Global, text: &[u8], delimiter: Delimiter) -> Result<Vec<u8>, AllocError>
     ensures { IfOk result (λ v. IsQuotedText delimiter text.now (strip_bom v.items)) }
 {
-    match check(text, delimiter, Header::First, false) {
+    match check(text, delimiter, HeaderPlace::First, false) {
         Ok(()) => quote_empty_lines(alloc, text, delimiter),
         Err(fault) => {
-            let above = above_fault(text, delimiter, Header::First, fault);
+            let above = above_fault(text, delimiter, HeaderPlace::First, fault);
             quote_empty_lines(alloc, above, delimiter)
         }
     }

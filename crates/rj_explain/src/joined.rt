@@ -14,10 +14,10 @@ use crate::clause::{BothColumns, columns_of_both};
 use crate::inputs::Inputs;
 use crate::shown::Shown;
 use rj_columns::Table;
-use rj_condition::{BindRefused, BoundJoin, ParseRefused, bind, one_clause, parse, split};
+use rj_condition::{BindRefused, BoundJoin, ParseRefused, bind, parse, split};
 use rj_engine::{NamingRefused, chosen_names};
-use rj_fault::Side;
 use rj_line::Request;
+use rj_line::fault::Side;
 use std::alloc::{AllocError, Global};
 
 /// The join that a clause asks of two tables, if it is valid.
@@ -34,7 +34,6 @@ pub(crate) fn join_of(
     ensures fits { IfOk result (λ o. IfSome o (λ join. fits join left.now.types right.now.types ≡ true)) }
     ensures asked { IfOk result (λ o. MatchOption o (HasNoJoin clause.now left.now right.now) (IsJoinOf clause.now left.now right.now)) }
 {
-    one_clause();
     let clause = match parse(alloc, clause) {
         Ok(clause) => clause,
         Err(ParseRefused::Memory) => return Err(AllocError),
@@ -74,7 +73,6 @@ fn names_of_result(
     ensures { IfOk result (λ o. MatchOption o (HasNoNames inputs.now.request.now columns.now.left columns.now.right)
         (λ v. AreNamesWritten inputs.now.request.now columns.now.left columns.now.right (map string_bytes v.items))) }
 {
-    one_clause();
     match join_of(alloc, inputs.request.clause, &columns.left, &columns.right)? {
         Some(join) => names_of(alloc, columns, &join, inputs.request),
         None => Ok(None),

@@ -10,8 +10,8 @@ use crate::clause::{BothColumns, columns_of_both};
 use crate::inputs::Inputs;
 use crate::shown::{Shown, ShownText, TypeWord, write_loose_bytes};
 use rj_columns::Table;
+use rj_columns::decimal::DecimalBuffer;
 use rj_condition::{BoundOperand, DecimalLiteral, Literal, Mismatch, first_mismatch};
-use rj_decimal::DecimalBuffer;
 use std::alloc::{AllocError, Global};
 use std::fmt;
 

@@ -4,12 +4,12 @@ ghost use Rattle.std.specs.Prelude.{◌≡◌, ◌<◌, ◌≤◌, ◌==◌, [],
 ghost use Rattle.std.specs.List.{count_by, list_all, prefix_len};
 ghost use Rattle.csv.specs.Machine.{next_record};
 ghost use Rattle.csv.specs.declared.parser.State.TheVariants as st;
-ghost use Rattle.rj_strict.specs.Reading.{config_of};
+ghost use Rattle.rj_csv_io.specs.StrictReading.{config_of};
 ghost use Rattle.rj_explain.specs.Places.{EndsFirst, HasNoRow, StandsAt};
 ghost use Rattle.rj_explain.specs.Places as places;
 
-use rj_header::first_end;
-use rj_strict::Delimiter;
+use rj_csv_io::names::first_end;
+use rj_csv_io::strict::Delimiter;
 
 fn is_line_end(byte: u8) -> bool
     ensures { result ≡ places.is_line_end byte }

@@ -1,7 +1,7 @@
 //! Names that are written between double quotes.
 
 use crate::inputs::Inputs;
-use rj_fault::Side;
+use rj_line::fault::Side;
 use std::alloc::{AllocError, Global};
 use std::str;
 

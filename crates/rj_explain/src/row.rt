@@ -7,7 +7,7 @@ ghost use Rattle.rj_explain.specs.Places.{HasNoRow, IsRow, at_column};
 
 use crate::places::{line_from, place_of_row};
 use rj_csv_io::Header;
-use rj_strict::Delimiter;
+use rj_csv_io::strict::Delimiter;
 use std::alloc::{AllocError, Global};
 
 /// The record of a row.

@@ -23,7 +23,7 @@ use crate::unknown::{IN_BOTH, side_of_case, words_of_case, words_of_neither, wor
 use rj_columns::Table;
 use rj_condition::{BoundJoin, Name};
 use rj_engine::header;
-use rj_fault::Side;
+use rj_line::fault::Side;
 use rj_settings::{ColumnChoice, SelectedColumn, Source};
 use std::alloc::{AllocError, Global};
 

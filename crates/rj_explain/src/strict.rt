@@ -3,11 +3,11 @@
 ghost use Rattle.std.specs.Prelude.{◌≡◌, ◌+◌, ◌==◌, IfNone, IfOk, IfSome, IsSome, List, None, string_bytes};
 ghost use Rattle.std.specs.List.{count_by};
 ghost use Rattle.std.specs.Option.{option_copied};
-ghost use Rattle.rj_strict.specs.Faults.{AreAbove, HasFault, row_at};
-ghost use Rattle.rj_strict.specs.Grammar.{Derives, File, Line, lines_text};
-ghost use Rattle.rj_strict.specs.Reading.{body_of};
-ghost use Rattle.rj_strict.specs.declared.fault.StrictFault.{StrictFault};
-ghost use Rattle.rj_strict.specs.declared.header.Header.TheVariants.{First};
+ghost use Rattle.rj_csv_io.specs.StrictFaults.{AreAbove, HasFault, row_at};
+ghost use Rattle.rj_csv_io.specs.Grammar.{Derives, File, Line, lines_text};
+ghost use Rattle.rj_csv_io.specs.StrictReading.{body_of};
+ghost use Rattle.rj_csv_io.specs.declared.strict.fault.StrictFault.{StrictFault};
+ghost use Rattle.rj_csv_io.specs.declared.strict.header.HeaderPlace.TheVariants.{First};
 ghost use Rattle.rj_explain.specs.Explained.{IsGrammarTold, IsStrictTold, column_name, file_read, names_of};
 ghost use Rattle.rj_explain.specs.Lines as lines;
 ghost use Rattle.rj_explain.specs.Strict.{IsFaultLine};
@@ -16,8 +16,8 @@ use crate::inputs::TableFile;
 use crate::places::line_feeds;
 use crate::row::field_at;
 use crate::shown::Shown;
+use rj_csv_io::strict::{Delimiter, HeaderPlace, above_fault, check};
 use rj_csv_io::{Header as Names, without_bom};
-use rj_strict::{Delimiter, Header, above_fault, check};
 use std::alloc::{AllocError, Global};
 
 /// The line, counted from 1, on which the row begins in which a text stops being of the grammar
@@ -30,10 +30,10 @@ pub fn line_of_fault(text: &[u8], delimiter: Delimiter, full: bool) -> Option<u6
     ensures each_file { (file : File) → Derives delimiter First full (body_of First text.now) file → result ≡ None }
     ensures each_fault { (fault : StrictFault) → HasFault delimiter First full (body_of First text.now) fault → IsSome result }
 {
-    match check(text, delimiter, Header::First, full) {
+    match check(text, delimiter, HeaderPlace::First, full) {
         Ok(()) => None,
         Err(fault) => {
-            let above = without_bom(above_fault(text, delimiter, Header::First, fault));
+            let above = without_bom(above_fault(text, delimiter, HeaderPlace::First, fault));
             Some(line_feeds(above) as u64 + 1)
         }
     }

@@ -9,7 +9,7 @@ use crate::clause::BothColumns;
 use crate::names::{Meant, NamesOf, nearest};
 use crate::shown::Shown;
 use rj_columns::Table;
-use rj_fault::Side;
+use rj_line::fault::Side;
 use std::alloc::{AllocError, Global};
 
 /// What is said of a name that both tables have.

@@ -8,7 +8,7 @@ ghost use Rattle.rj_explain.specs.Listed as listed;
 ghost use Rattle.rj_explain.specs.Listed.{AreWordsTold, IsValueTold, value_of};
 
 use crate::lists::{explain_list, explain_shared_list};
-use rj_fault::{Fault, Side};
+use rj_line::fault::{Fault, Side};
 use std::alloc::{AllocError, Global};
 
 // Which rows may be asked for.

@@ -4,3 +4,4 @@ pub mod ListFacts
 pub mod SuggestedFacts
 pub mod TextFacts
 pub mod ToldFacts
+pub mod UnsuggestedFacts

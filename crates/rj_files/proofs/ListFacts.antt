@@ -1,12 +1,11 @@
 -- Words with the lists of files in their places, one by one.
-use Rattle.std.proofs.Common.{◌≡◌, ◌≢◌, ◌∙◌, ◌+◌, ◌++◌, ◌∷◌, [], ℕ, Bor, List, ap, append_assoc, arith, drop, false, inl, inr, length, map, ne_eqb, refl, subst, sym, true}
+use Rattle.std.proofs.Common.{◌≡◌, ◌≢◌, ◌∙◌, ◌+◌, ◌++◌, ◌∷◌, [], ℕ, Bool, Bor, List, ap, append_assoc, arith, drop, false, inl, inr, length, map, ne_eqb, refl, subst, sym, true}
 use Rattle.std.specs.Prelude.{Err, IfErr, IfSome, MatchOption, None, Option, Result, Some, string_bytes}
 use Rattle.std.proofs.lemmas.List.{map-append}
 use Rattle.std.specs.declared.alloc.Global.{Global}
 use Rattle.std.specs.declared.string.String.{String}
-use Rattle.rj_files.specs.Labels.{AreReadWords, IsListsFault, IsReadWord, IsWordFault, NameFile, file_label, is_file, label_of, named_file, unread_name}
-use Rattle.rj_files.specs.Told.{IsKept, OptionalText}
-use Rattle.rj_fault.specs.declared.fault.Fault.{Fault}
+use Rattle.rj_files.specs.Labels.{AreReadWords, IsListError, IsListsError, IsReadWord, IsWordError, NameFile, file_label, is_file, label_of, named_file}
+use Rattle.rj_files.specs.declared.explained.ExplainedFault.{ExplainedFault}
 use Rattle.rj_files.specs.declared.reading.FileLabel.{FileLabel}
 
 no_file : (value : List ℕ) → ((name : List ℕ) → value ≢ 64 ∷ name) → is_file value ≡ false
@@ -60,11 +59,11 @@ next-read words read label w r all e one =
     (subst (λ (l : Option FileLabel). IsReadWord l (string_bytes w) (string_bytes r)) e one))
 
 -- why the first of the further words can't be had
-pub next-fault : (words rest all : List (String Global)) (label : Option FileLabel) (w : String Global) (f : Fault) (file : OptionalText)
-    → words ++ w ∷ rest ≡ all → label ≡ last_label None (map string_bytes words) → IsWordFault label (string_bytes w) f file
-    → IsListsFault (map string_bytes all) f file
-next-fault words rest all label w f file is e (inl memory) = inl memory
-next-fault words rest all label w f file is e (inr (l, names, why, kept)) =
+pub next-fault : (words rest all : List (String Global)) (label : Option FileLabel) (w : String Global) (explain : Bool) (x : ExplainedFault)
+    → words ++ w ∷ rest ≡ all → label ≡ last_label None (map string_bytes words) → IsWordError label (string_bytes w) explain x
+    → IsListsError (map string_bytes all) explain x
+next-fault words rest all label w explain x is e (inl memory) = inl memory
+next-fault words rest all label w explain x is e (inr (l, names, why)) =
     let before = last_label None (map string_bytes words) in
     let here = subst (λ (b : Option FileLabel). file_label b (string_bytes w) ≡ Some l) e names in
     let there = named None (map string_bytes words) (map string_bytes rest) (string_bytes w) l here in
@@ -72,8 +71,7 @@ next-fault words rest all label w f file is e (inr (l, names, why, kept)) =
       l,
       named_file before (string_bytes w),
       subst (λ (ws : List (List ℕ)). NameFile None ws l (named_file before (string_bytes w))) (sym (map-append string_bytes words (w ∷ rest)) ∙ ap (map string_bytes) is) there,
-      why,
-      subst (λ (b : Option FileLabel). IsKept file (unread_name (named_file b (string_bytes w)) f)) e kept,
+      subst (λ (b : Option FileLabel). IsListError explain x l (named_file b (string_bytes w))) e why,
     )
 
 -- an iterator that moves on by one item

@@ -21,9 +21,9 @@ use Rattle.rj_csv_io.specs.Rows.{read_rows}
 use Rattle.rj_csv_io.specs.Tables.{are_null_texts, of_begun, read_records, records_read}
 use Rattle.rj_csv_io.specs.declared.refused.ReadRefused.{ReadRefused}
 use Rattle.rj_csv_io.specs.declared.refused.ReadRefused.TheVariants as refused
-use Rattle.rj_suggest.specs.Misfits.{IsSuggestionOf}
-use Rattle.rj_suggest.specs.Suggested.{column_line, column_lines, is_identifier, name_text, texts_for, type_word}
-use Rattle.rj_suggest.specs.declared.suggestion.Suggestion.{Suggestion}
+use Rattle.rj_line.specs.Misfits.{IsSuggestionOf}
+use Rattle.rj_line.specs.Suggested.{column_line, column_lines, is_identifier, name_text, texts_for, type_word}
+use Rattle.rj_line.specs.declared.suggest.suggestion.Suggestion.{Suggestion}
 
 -- a text may be cut on both sides of an ASCII byte
 cut-at : (front text : List ℕ) (b : ℕ) → b < 128 → IsUtf8 (front ++ b ∷ text) → IsUtf8 front × IsUtf8 text

@@ -8,15 +8,15 @@ use Rattle.rj_engine.specs.declared.violations.Violation.TheVariants as violatio
 use Rattle.rj_explain.specs.Explained.{IsExplained, IsPairedTold, file_of}
 use Rattle.rj_explain.specs.Further.{IsFurtherExplained}
 use Rattle.rj_explain.specs.declared.inputs.Inputs.{Inputs}
-use Rattle.rj_fault.specs.Faults.{side_text}
-use Rattle.rj_fault.specs.declared.fault.Fault.{Fault}
-use Rattle.rj_fault.specs.declared.fault.Fault.TheVariants as fault
-use Rattle.rj_fault.specs.declared.fault.Side.{Side}
-use Rattle.rj_fault.specs.declared.fault.Side.TheVariants as side
+use Rattle.rj_line.specs.Faults.{side_text}
+use Rattle.rj_line.specs.declared.fault.Fault.{Fault}
+use Rattle.rj_line.specs.declared.fault.Fault.TheVariants as fault
+use Rattle.rj_line.specs.declared.fault.Side.{Side}
+use Rattle.rj_line.specs.declared.fault.Side.TheVariants as side
 use Rattle.rj_line.specs.declared.line.Line.{Line}
-use Rattle.rj_suggest.specs.Misfits.{IsSuggestion}
-use Rattle.rj_suggest.specs.Suggested.{IsSuggestFault}
-use Rattle.rj_suggest.specs.declared.suggestion.Suggestion.{Suggestion}
+use Rattle.rj_line.specs.Misfits.{IsSuggestion}
+use Rattle.rj_line.specs.Suggested.{IsSuggestFault}
+use Rattle.rj_line.specs.declared.suggest.suggestion.Suggestion.{Suggestion}
 use Rattle.rj_files.specs.Entries.{entry_for}
 use Rattle.rj_files.specs.Memory.{IsMemoryTold}
 use Rattle.rj_files.specs.Streams.{IsOfStreams}
@@ -82,15 +82,21 @@ abbrev pub AreLinesBy : Line → List ℕ → List ℕ → Fault → OptionalTex
 AreLinesBy line l r f lines =
     (inputs : Inputs) × (inputs.left.now ≡ l) × (inputs.right.now ≡ r) × (inputs.request.now ≡ line.request) × IsThere lines (IsToldOf line f inputs)
 
--- the line when a side's file can't be read: that of the system, or that memory ran out meanwhile
-abbrev pub IsUnreadExplained : Side → Fault → OptionalText → Type 0
-IsUnreadExplained s f lines =
-    ((f ≡ fault.ReadDevice s) × IsThere lines IsIndented) ⊎ ((f ≡ fault.Memory) × IsThere lines (λ text. text ≡ unread_memory_text s))
+-- the line when a side's file can't be read: one that explains its stream, or that memory ran out
+-- meanwhile
+abbrev pub IsUnreadExplained : Side → (List ℕ → Type 0) → Fault → OptionalText → Type 0
+IsUnreadExplained s explains f lines =
+    ((f ≡ fault.ReadDevice s) × IsThere lines (λ text. IsIndented text × explains text))
+    ⊎ ((f ≡ fault.Memory) × IsThere lines (λ text. text ≡ unread_memory_text s))
 
--- the lines for an error of a run over two streams, other than that of a failed write: there are none
--- if memory ran out beside the reading and the join
-abbrev pub AreLinesOf : Line → Line → Option (List ℕ) → Option (List ℕ) → Fault → OptionalText → Type 0
-AreLinesOf line joined left right f lines =
-    ((f ≡ fault.Memory) × (lines ≡ Ok None))
-    ⊎ (IsUnreadExplained side.Left f lines ⊎ (IsUnreadExplained side.Right f lines
+-- between the reading and the join, a line completes headers or takes types from cells
+abbrev pub IsPreparing : Line → Type 0
+IsPreparing line = (line.unnamed ≡ true) ⊎ (line.request.auto_types ≡ true)
+
+-- the lines for an error of a run over two streams, which explain theirs so, other than that of a
+-- failed write: there are none if memory ran out between the reading and the join
+abbrev pub AreLinesOf : Line → Line → Option (List ℕ) → Option (List ℕ) → (List ℕ → Type 0) → (List ℕ → Type 0) → Fault → OptionalText → Type 0
+AreLinesOf line joined left right explains_left explains_right f lines =
+    (IsPreparing line × (f ≡ fault.Memory) × (lines ≡ Ok None))
+    ⊎ (IsUnreadExplained side.Left explains_left f lines ⊎ (IsUnreadExplained side.Right explains_right f lines
     ⊎ IsOfStreams line joined left right (λ l r. AreLinesBy joined l r f lines)))

@@ -1,8 +1,8 @@
 -- The bytes that are joined in place of those that were read.
 use Rattle.std.specs.Prelude.{ℕ, ◌≡◌, Bool, true, false, List}
 use Rattle.rj_command.specs.Sides.{delimiter_of}
-use Rattle.rj_fault.specs.declared.fault.Side.{Side}
-use Rattle.rj_header.specs.Completed.{IsCompleted}
+use Rattle.rj_line.specs.declared.fault.Side.{Side}
+use Rattle.rj_csv_io.specs.Completed.{IsCompleted}
 use Rattle.rj_line.specs.declared.line.Line.{Line}
 use Rattle.rj_line.specs.declared.request.Strictness.{Strictness}
 use Rattle.rj_line.specs.declared.request.Strictness.TheVariants as strictness

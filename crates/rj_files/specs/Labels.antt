@@ -1,11 +1,14 @@
 -- The errors of a file, by whose file it is.
-use Rattle.std.specs.Prelude.{◌≡◌, ◌⊎◌, ◌==◌, ◌++◌, ◌∷◌, [], ℕ, Bool, false, List, MatchOption, Option, None, Some, codes, drop, if◌then◌else◌}
+use Rattle.std.specs.Prelude.{◌≡◌, ◌⊎◌, ◌==◌, ◌++◌, ◌∷◌, [], ℕ, Bool, false, true, List, MatchOption, Option, None, Ok, Some, codes, drop, if◌then◌else◌}
 use Rattle.std.specs.List.{after_first, before_first}
 use Rattle.std.specs.Str.{bytes_eq}
-use Rattle.rj_fault.specs.declared.fault.Fault.{Fault}
-use Rattle.rj_fault.specs.declared.fault.Fault.TheVariants as fault
-use Rattle.rj_fault.specs.declared.fault.Side.TheVariants as side
-use Rattle.rj_files.specs.Told.{IsKept, OptionalText}
+use Rattle.rj_line.specs.declared.fault.Fault.{Fault}
+use Rattle.rj_line.specs.declared.fault.Fault.TheVariants as fault
+use Rattle.rj_line.specs.declared.fault.Side.TheVariants as side
+use Rattle.rj_line.specs.Listed.{list_in}
+use Rattle.rj_files.specs.Texts.{IsSystemLine}
+use Rattle.rj_files.specs.Told.{IsKept, IsThere}
+use Rattle.rj_files.specs.declared.explained.ExplainedFault.{ExplainedFault}
 use Rattle.rj_files.specs.declared.reading.FileLabel.{FileLabel}
 use Rattle.rj_files.specs.declared.reading.FileLabel.TheVariants as label
 
@@ -60,9 +63,9 @@ abbrev pub kept_of : Option FileLabel → List ℕ → List ℕ
 kept_of None word = before_first (λ b. b == 61) word ++ codes "="
 kept_of (Some l) word = []
 
--- a word as it is read: a list stands in the place of `@FILE`
+-- a word as it is read: the list that the bytes of a file write stands in the place of `@FILE`
 abbrev pub IsReadWord : Option FileLabel → List ℕ → List ℕ → Type 0
-IsReadWord before word read = MatchOption (file_label before word) (read ≡ word) (λ _. (list : List ℕ) × (read ≡ kept_of before word ++ list))
+IsReadWord before word read = MatchOption (file_label before word) (read ≡ word) (λ _. (bytes : List ℕ) × (read ≡ kept_of before word ++ list_in bytes))
 
 abbrev pub AreReadWords : Option FileLabel → List (List ℕ) → List (List ℕ) → Type 0
 AreReadWords before [] [] = Unit {0}
@@ -75,18 +78,28 @@ abbrev pub NameFile : Option FileLabel → List (List ℕ) → FileLabel → Lis
 NameFile before [] l name = ⊥
 NameFile before (w ∷ words) l name = ((file_label before w ≡ Some l) × (named_file before w ≡ name)) ⊎ NameFile (label_of w) words l name
 
--- memory ran out, and no file is named
-abbrev pub IsMemoryFault : Fault → OptionalText → Type 0
-IsMemoryFault f file = (f ≡ fault.Memory) × IsKept file None
+-- the line that tells of a file of types why its list can't be had; none if memory ran out
+abbrev pub IsListLine : List ℕ → Fault → List ℕ → Type 0
+IsListLine name (fault.ReadDevice s) text = IsSystemLine (codes "the file of types " ++ name) text
+IsListLine name fault.SharedReadDevice text = IsSystemLine (codes "the file of types " ++ name) text
+IsListLine name (fault.BadTypeList s) text = text ≡ codes "  the file of types " ++ (name ++ (codes " isn't UTF-8" ++ 10 ∷ []))
+IsListLine name fault.BadSharedTypeList text = text ≡ codes "  the file of types " ++ (name ++ (codes " isn't UTF-8" ++ 10 ∷ []))
+IsListLine name f text = text ≡ []
 
--- why a word can't be had with the list of the file that it names, and the name that the error has
-abbrev pub IsWordFault : Option FileLabel → List ℕ → Fault → OptionalText → Type 0
-IsWordFault before word f file =
-    IsMemoryFault f file
-    ⊎ ((l : FileLabel) × (file_label before word ≡ Some l) × IsListFault l f × IsKept file (unread_name (named_file before word) f))
+-- memory ran out, and neither a file is named nor is anything explained
+abbrev pub IsMemoryError : ExplainedFault → Type 0
+IsMemoryError e = (e.fault ≡ fault.Memory) × IsKept e.file None × (e.lines ≡ Ok None)
+
+-- why the list of this file can't be had; it has the file's name, and a line if that is asked for
+abbrev pub IsListError : Bool → ExplainedFault → FileLabel → List ℕ → Type 0
+IsListError explain e l name = IsListFault l e.fault × IsKept e.file (unread_name name e.fault) × (explain ≡ true → IsThere e.lines (IsListLine name e.fault))
+
+-- why a word can't be had with the list of the file that it names
+abbrev pub IsWordError : Option FileLabel → List ℕ → Bool → ExplainedFault → Type 0
+IsWordError before word explain e =
+    IsMemoryError e ⊎ ((l : FileLabel) × (file_label before word ≡ Some l) × IsListError explain e l (named_file before word))
 
 -- why the words of a line can't be had with the lists of the files that they name
-abbrev pub IsListsFault : List (List ℕ) → Fault → OptionalText → Type 0
-IsListsFault words f file =
-    IsMemoryFault f file
-    ⊎ ((l : FileLabel) × (name : List ℕ) × NameFile None words l name × IsListFault l f × IsKept file (unread_name name f))
+abbrev pub IsListsError : List (List ℕ) → Bool → ExplainedFault → Type 0
+IsListsError words explain e =
+    IsMemoryError e ⊎ ((l : FileLabel) × (name : List ℕ) × NameFile None words l name × IsListError explain e l name)

@@ -16,3 +16,4 @@ pub mod Telling
 pub mod Terminals
 pub mod Texts
 pub mod Told
+pub mod Unwritten

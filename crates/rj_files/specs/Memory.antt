@@ -5,8 +5,8 @@ use Rattle.rj_command.specs.Sizes.{AreSizes}
 use Rattle.rj_command.specs.declared.join.sizes.Sizes.{Sizes}
 use Rattle.rj_engine.specs.declared.counts.Counts.{Counts}
 use Rattle.rj_explain.specs.declared.inputs.Inputs.{Inputs}
-use Rattle.rj_fault.specs.declared.fault.Fault.{Fault}
-use Rattle.rj_fault.specs.declared.fault.Fault.TheVariants as fault
+use Rattle.rj_line.specs.declared.fault.Fault.{Fault}
+use Rattle.rj_line.specs.declared.fault.Fault.TheVariants as fault
 use Rattle.rj_line.specs.declared.request.Request.{Request}
 use Rattle.rj_files.specs.Shares.{bounded}
 use Rattle.rj_files.specs.declared.memory.FileSizes.{FileSizes}

@@ -5,21 +5,21 @@ use Rattle.rj_command.specs.Auto.{IsCompleted}
 use Rattle.rj_command.specs.Counts.{IsCountFault, WritesCounts}
 use Rattle.rj_command.specs.Runs.{IsRunFault, WritesJoined}
 use Rattle.rj_command.specs.Sides.{strict_fault}
-use Rattle.rj_fault.specs.Faults.{IsOfWriting}
-use Rattle.rj_fault.specs.declared.fault.Fault.{Fault}
-use Rattle.rj_fault.specs.declared.fault.Fault.TheVariants as fault
-use Rattle.rj_fault.specs.declared.fault.Side.{Side}
-use Rattle.rj_fault.specs.declared.fault.Side.TheVariants as side
+use Rattle.rj_line.specs.Faults.{IsOfWriting}
+use Rattle.rj_line.specs.declared.fault.Fault.{Fault}
+use Rattle.rj_line.specs.declared.fault.Fault.TheVariants as fault
+use Rattle.rj_line.specs.declared.fault.Side.{Side}
+use Rattle.rj_line.specs.declared.fault.Side.TheVariants as side
 use Rattle.rj_line.specs.declared.line.Line.{Line}
 use Rattle.rj_line.specs.declared.request.Strictness.{Strictness}
 use Rattle.rj_line.specs.declared.request.Strictness.TheVariants as strictness
-use Rattle.rj_suggest.specs.Keys.{IsListing}
-use Rattle.rj_suggest.specs.Strict.{IsStrictListing, IsStrictRefusal}
-use Rattle.rj_suggest.specs.Suggested.{IsSuggestFault}
-use Rattle.rj_suggest.specs.declared.suggestion.ListedColumns.{ListedColumns}
-use Rattle.rj_suggest.specs.declared.suggestion.Suggestion.{Suggestion}
-use Rattle.rj_suggest.specs.declared.strict.StrictlyRefused.{StrictlyRefused}
-use Rattle.rj_suggest.specs.declared.strict.StrictlyRefused.TheVariants as refused
+use Rattle.rj_line.specs.Keys.{IsListing}
+use Rattle.rj_line.specs.StrictListings.{IsStrictListing, IsStrictRefusal}
+use Rattle.rj_line.specs.Suggested.{IsSuggestFault}
+use Rattle.rj_line.specs.declared.suggest.suggestion.ListedColumns.{ListedColumns}
+use Rattle.rj_line.specs.declared.suggest.suggestion.Suggestion.{Suggestion}
+use Rattle.rj_line.specs.declared.suggest.strict.StrictlyRefused.{StrictlyRefused}
+use Rattle.rj_line.specs.declared.suggest.strict.StrictlyRefused.TheVariants as refused
 use Rattle.rj_files.specs.Given.{IsGiven}
 use Rattle.rj_files.specs.declared.joining.Written.{Written}
 use Rattle.rj_files.specs.declared.joining.Written.TheVariants.{Counted, Joined}

@@ -1,8 +1,8 @@
 -- The lines that are added to an error: for rows that a join doesn't keep, for running out of memory
 -- while a file is read, and the system's.
 use Rattle.std.specs.Prelude.{ℕ, ◌≡◌, List, [], ◌∷◌, ◌++◌, codes, None, Option, Some}
-use Rattle.rj_fault.specs.Faults.{side_text}
-use Rattle.rj_fault.specs.declared.fault.Side.{Side}
+use Rattle.rj_line.specs.Faults.{side_text}
+use Rattle.rj_line.specs.declared.fault.Side.{Side}
 use Rattle.rj_command.specs.Statistics.{unkept_text}
 
 -- the line for a join that keeps no unmatched rows of a table
@@ -21,3 +21,7 @@ IsIndented text = (line : List ℕ) × (text ≡ codes "  " ++ (line ++ 10 ∷ [
 abbrev pub system_line : List ℕ → Option (List ℕ) → List ℕ
 system_line name None = codes "  " ++ (name ++ 10 ∷ [])
 system_line name (Some words) = codes "  " ++ ((name ++ (codes ": " ++ words)) ++ 10 ∷ [])
+
+-- the same, whatever the system's words are
+abbrev pub IsSystemLine : List ℕ → List ℕ → Type 0
+IsSystemLine name text = (words : Option (List ℕ)) × (text ≡ system_line name words)

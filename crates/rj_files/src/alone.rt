@@ -8,11 +8,11 @@ ghost use Rattle.rj_files.specs.Told.{IsThere};
 
 use crate::explained::ExplainedFault;
 use crate::reading::Stream;
+use rj_csv_io::strict::Delimiter;
 use rj_explain::explain_alone;
-use rj_fault::Fault;
 use rj_line::Strictness;
-use rj_strict::Delimiter;
-use rj_suggest::ListedColumns;
+use rj_line::fault::Fault;
+use rj_line::suggest::ListedColumns;
 use std::alloc::Global;
 
 /// What is asked of the only file of `--suggest-types`.
@@ -56,7 +56,7 @@ pub(crate) fn unread_alone<S: Stream>(
 ) -> ExplainedFault
     ensures fault { result.fault ≡ fault }
     ensures unasked { explain ≡ false → result.lines ≡ Ok None }
-    ensures asked { explain ≡ true → IsUnreadTold fault result.lines }
+    ensures asked { explain ≡ true → IsUnreadTold (S.explains stream.now) fault result.lines }
     ensures told { result.is_told ≡ true }
 {
     if !explain {

@@ -1,10 +1,8 @@
 //! What the words of a command line ask for: explanations of its error, or suggested types.
 
-ghost use Rattle.std.specs.Prelude.{◌≡◌, ◌++◌, Bool, codes, map, nat_eq};
-ghost use Rattle.std.specs.List.{filter_map, starts_with};
-ghost use Rattle.rj_line.specs.Options.{OptionWords, option_rules};
-ghost use Rattle.rj_line.specs.declared.form.Form.{Form};
-ghost use Rattle.rj_files.specs.Asking.{are_quiet, ask_for_lines, asking_of, has_start, has_word, is_quiet, letters, options_in};
+ghost use Rattle.std.specs.Prelude.{◌≡◌, map, nat_eq};
+ghost use Rattle.std.specs.List.{starts_with};
+ghost use Rattle.rj_files.specs.Asking.{are_quiet, ask_for_lines, asking_of, has_start, has_word, is_quiet, options_in};
 
 use rj_line::{form_of, is_explained};
 
@@ -45,12 +43,6 @@ fn is_quiet(word: &str) -> bool
         || begins_with(word, "-qh")
         || begins_with(word, "-qV")
 }
-
-/// The letters that may stand behind `-q` are those of all options of a line, of help and of the
-/// version. The function does nothing; its contract is a theorem.
-pub fn letters_are_of_options()
-    ensures { (form : Form) (by_word : Bool) (words : OptionWords) → filter_map (λ r. r.short) (option_rules form by_word words) ++ codes "hV" ≡ letters }
-{}
 
 // Whether one of the words does.
 fn are_quiet(words: &[&str]) -> bool

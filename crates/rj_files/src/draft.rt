@@ -5,10 +5,10 @@ ghost use Rattle.std.specs.Prelude.{◌≡◌, ◌≢◌, ◌↔◌, IfOk, IfErr
 ghost use Rattle.std.specs.Fs.{IsFile, file_type};
 ghost use Rattle.std.specs.IoError.{error_kind};
 ghost use Rattle.std.specs.Path.{path_parent};
-ghost use Rattle.rj_fault.specs.Faults.{IsOfWriting};
+ghost use Rattle.rj_line.specs.Faults.{IsOfWriting};
 ghost use Rattle.rj_files.specs.Drafts.{draft_name, folder_of, in_folder, named_folder, repeated, without_group};
 
-use rj_fault::Fault;
+use rj_line::fault::Fault;
 use std::alloc::{AllocError, Global};
 use std::fs::{self, Files, Metadata, OpenFile, OpenOptions};
 use std::io::{self, ErrorKind};

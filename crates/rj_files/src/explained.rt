@@ -1,12 +1,12 @@
 //! Why a run ended without its output, and the lines that explain it.
 
 ghost use Rattle.std.specs.Prelude.{◌≡◌, ◌≢◌, ◌⊎◌, IfOk, IfErr, Err, None, Ok, Some, false, option_map, true};
-ghost use Rattle.rj_fault.specs.Faults.{IsAskedFor, clap_error_of, status_of};
+ghost use Rattle.rj_line.specs.Faults.{IsAskedFor, clap_error_of, status_of};
 ghost use Rattle.rj_files.specs.Told.{kept_text, told_file, told_lines};
 
 use crate::listener::{Listener, Told};
-use rj_fault::{ExitReason, Fault, tell};
 use rj_line::Form;
+use rj_line::fault::{ExitReason, Fault, tell};
 use std::alloc::AllocError;
 
 /// Why there is no output, the file that can't be read or written, if that is why, and the lines
@@ -29,7 +29,7 @@ impl From<Fault> for ExplainedFault {
 }
 
 impl From<AllocError> for ExplainedFault {
-    ghost use Rattle.rj_fault.specs.declared.fault.Fault.TheVariants.{Memory};
+    ghost use Rattle.rj_line.specs.declared.fault.Fault.TheVariants.{Memory};
 
     ghost from_gives = { λ _ e. (e.fault ≡ Memory) × (e.file ≡ Ok None) × (e.lines ≡ Ok None) × (e.is_told ≡ true) };
 

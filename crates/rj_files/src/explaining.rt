@@ -1,6 +1,6 @@
 //! `--explain`: the lines that are added after the line of an error.
 
-ghost use Rattle.std.specs.Prelude.{◌≡◌, ◌≢◌, ◌↔◌, ◌<◌, IfErr, IfOk, IsTrue, None, Ok, false, map, option_map, string_bytes, true};
+ghost use Rattle.std.specs.Prelude.{◌≡◌, ◌≢◌, ◌↔◌, ◌<◌, IfErr, IfOk, IsTrue, None, Ok, codes, false, map, option_map, string_bytes, true, unwrap_or};
 ghost use Rattle.std.specs.IoError.{error_kind};
 ghost use Rattle.std.specs.Option.{IsSomeAnd};
 ghost use Rattle.rj_command.specs.Sides.{delimiter_of, nulls_of};
@@ -11,7 +11,8 @@ ghost use Rattle.rj_line.specs.Line.{IsLineFault, IsLineOf};
 ghost use Rattle.rj_files.specs.Asking.{ask_for_lines};
 ghost use Rattle.rj_files.specs.Entries.{entry_for, is_entry_for};
 ghost use Rattle.rj_files.specs.Explained.{IsPlaceExplained, IsToldOf, IsUndeclaredTold, IsUnexpectedTold, IsViolationTold, undeclared_line};
-ghost use Rattle.rj_files.specs.Texts.{unkept_lines};
+ghost use Rattle.rj_files.specs.FaultFiles.{output_name};
+ghost use Rattle.rj_files.specs.Texts.{IsSystemLine, unkept_lines};
 ghost use Rattle.rj_files.specs.Told.{IsThere};
 
 use crate::asking::ask_for_lines;
@@ -22,9 +23,9 @@ use crate::outputs::output_of;
 use rj_command::{Line, OpenGate, UnkeptRows, Violation, first_violation, read_line};
 use rj_csv_io::InputFormat;
 use rj_explain::{Inputs, explain, explain_further, explain_row, explain_words};
-use rj_fault::{Fault, Side};
 use rj_line::Request;
-use rj_suggest::suggest_types;
+use rj_line::fault::{Fault, Side};
+use rj_line::suggest::suggest_types;
 use std::alloc::{AllocError, Global};
 use std::io::{self, ErrorKind};
 use std::str;
@@ -67,6 +68,8 @@ pub fn read_words_of_line<'a>(
 ) -> Result<Line<'a>, ExplainedFault>
     ensures line { IfOk result (IsLineOf processors (map (λ w. w.now) words.entry.now)) }
     ensures fault { IfErr result (λ e. IsLineFault (map (λ w. w.now) words.entry.now) e.fault) }
+    ensures file { IfErr result (λ e. e.file ≡ Ok None) }
+    ensures told { IfErr result (λ e. e.is_told ≡ true) }
     ensures unasked { ask_for_lines (map (λ w. w.now) words.entry.now) ≡ false → IfErr result (λ e. e.lines ≡ Ok None) }
     ensures asked { ask_for_lines (map (λ w. w.now) words.entry.now) ≡ true
         → IfErr result (λ e. IfOk e.lines (λ o. AreWordsTold e.fault (map (λ w. w.now) words.entry.now) (option_map string_bytes o))) }
@@ -277,6 +280,8 @@ pub(crate) fn unwritten(
     ensures fault { result.fault ≡ fault }
     ensures unheard { (result.is_told ≡ false) ↔ ((fault ≡ Fault.WriteDevice) × IsSomeAnd error.now (λ e. error_kind e ≡ ErrorKind.BrokenPipe)) }
     ensures told { fault ≢ Fault.WriteDevice → result.is_told ≡ true }
+    ensures asked { explain ≡ true → fault ≡ Fault.WriteDevice → result.is_told ≡ true
+        → IsThere result.lines (IsSystemLine (unwrap_or (option_map (λ name. name.now) file.entry) (codes "standard output"))) }
     ensures other { fault ≢ Fault.WriteDevice → result.lines ≡ Ok None }
     ensures unasked { explain ≡ false → result.lines ≡ Ok None }
 {
@@ -310,6 +315,8 @@ pub(crate) fn with_write_error(
     ensures fault { result.fault ≡ e.fault }
     ensures other { e.fault ≢ Fault.WriteDevice → result ≡ e }
     ensures unasked { e.fault ≡ Fault.WriteDevice → line.now.explain ≡ false → result.lines ≡ Ok None }
+    ensures asked { line.now.explain ≡ true → e.fault ≡ Fault.WriteDevice → result.is_told ≡ true
+        → IsThere result.lines (IsSystemLine (output_name (option_map (λ name. name.now) line.now.output))) }
 {
     if !is_unwritten(e.fault()) {
         return e;

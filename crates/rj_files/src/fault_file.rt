@@ -8,7 +8,7 @@ use crate::explained::ExplainedFault;
 use crate::named::is_standard_stream;
 use crate::outputs::file_of;
 use rj_command::Line;
-use rj_fault::{Fault, Side};
+use rj_line::fault::{Fault, Side};
 use std::alloc::{AllocError, Global};
 
 /// The names of the files of a line: of the tables, and of the output, if it has one.

@@ -9,10 +9,10 @@ use crate::explained::ExplainedFault;
 use crate::joining::Tables;
 use crate::progress::Progress;
 use rj_command::Line;
-use rj_fault::{Fault, Side};
-use rj_header::{GivenName, complete_header};
+use rj_csv_io::names::{GivenName, complete_header};
+use rj_csv_io::strict::Delimiter;
+use rj_line::fault::{Fault, Side};
 use rj_line::{Request, Strictness};
-use rj_strict::Delimiter;
 use std::time::Clock;
 
 // Whether texts have to be of RFC 4180's grammar.
@@ -64,6 +64,7 @@ fn given_bytes<R: AllocGlobal + Clock + Eprint>(
 ) -> Result<Vec<u8>, ExplainedFault>
     ensures given { IfOk result (λ v. IsGiven line.now side bytes.items v.items) }
     ensures fault { IfErr result (λ e. e.fault ≡ Fault.Memory) }
+    ensures unnamed { IfErr result (λ _. line.now.unnamed ≡ true) }
     ensures lines { IfErr result (λ e. e.lines ≡ Ok None) }
     ensures told { IfErr result (λ e. e.is_told ≡ true) }
 {
@@ -98,6 +99,7 @@ pub(crate) fn given_tables<R: AllocGlobal + Clock + Eprint>(
     ensures left { IfOk result (λ t. IsGiven line.now Side.Left tables.left.items t.left.items) }
     ensures right { IfOk result (λ t. IsGiven line.now Side.Right tables.right.items t.right.items) }
     ensures fault { IfErr result (λ e. e.fault ≡ Fault.Memory) }
+    ensures unnamed { IfErr result (λ _. line.now.unnamed ≡ true) }
     ensures lines { IfErr result (λ e. e.lines ≡ Ok None) }
     ensures told { IfErr result (λ e. e.is_told ≡ true) }
 {

@@ -1,8 +1,11 @@
 //! What a line asks for of the bytes of two tables: their joined table, or how many rows it has.
 
-ghost use Rattle.std.specs.Prelude.{◌≡◌, ◌≢◌, ◌<◌, ◌-◌, ◌^◌, IfOk, IfErr, None, Ok, false, true};
+ghost use Rattle.std.specs.Prelude.{◌≡◌, ◌≢◌, IfOk, IfErr, None, Ok, false, option_map, true};
 ghost use Rattle.rj_files.specs.Explained.{AreLinesBy};
+ghost use Rattle.rj_files.specs.FaultFiles.{output_name};
 ghost use Rattle.rj_files.specs.Streams.{IsAskedFault, WritesAsked};
+ghost use Rattle.rj_files.specs.Texts.{IsSystemLine};
+ghost use Rattle.rj_files.specs.Told.{IsThere};
 
 use crate::explained::ExplainedFault;
 use crate::explaining::{explained, with_write_error};
@@ -12,8 +15,8 @@ use crate::watched::WatchedWriter;
 use rj_command::{Line, Stats, count, run};
 use rj_csv_io::{CountedWriter, Output};
 use rj_explain::Inputs;
-use rj_fault::Fault;
 use rj_line::Request;
+use rj_line::fault::Fault;
 use std::convert::AsSlice;
 use std::io::Write;
 use std::sync::Wait;
@@ -66,7 +69,6 @@ where
     R: AllocGlobal + Eprint + Threads + Wait + Clock + Sync,
     B: AsSlice<u8> + Drop,
     O: Output,
-    requires { O.count writer.old < 2 ^ 64 - 1 }
     ensures written { IfOk result (WritesAsked line.now (B.items left) (B.items right) (O.told writer.old) (O.told writer.new)) }
     ensures fault { IfErr result (IsAskedFault line.now (B.items left) (B.items right)) }
     ensures unchanged { IfErr result (λ f. f ≢ Fault.WriteDevice → writer.new ≡ writer.old) }
@@ -95,7 +97,6 @@ fn write_asked<R, O>(
 where
     R: AllocGlobal + Eprint + Threads + Wait + Clock + Sync,
     O: Output,
-    requires { O.count writer.old < 2 ^ 64 - 1 }
     ensures written { IfOk result (WritesAsked line.now tables.left.items tables.right.items (O.told writer.old) (O.told writer.new)) }
     ensures fault { IfErr result (λ e. IsAskedFault line.now tables.left.items tables.right.items e.fault) }
     ensures unasked { line.now.explain ≡ false → IfErr result (λ e. e.lines ≡ Ok None) }
@@ -138,6 +139,8 @@ where
     ensures fault { IfErr result.0 (λ e. IsAskedFault line.now tables.left.items tables.right.items e.fault) }
     ensures unasked { line.now.explain ≡ false → IfErr result.0 (λ e. e.lines ≡ Ok None) }
     ensures asked { line.now.explain ≡ true → IfErr result.0 (λ e. e.fault ≢ Fault.WriteDevice → AreLinesBy line.now tables.left.items tables.right.items e.fault e.lines) }
+    ensures unwritten { line.now.explain ≡ true → IfErr result.0 (λ e. e.fault ≡ Fault.WriteDevice → e.is_told ≡ true
+        → IsThere e.lines (IsSystemLine (output_name (option_map (λ name. name.now) line.now.output)))) }
     ensures unchanged { IfErr result.0 (λ e. e.fault ≢ Fault.WriteDevice → result.1 ≡ writer) }
     ensures told { IfErr result.0 (λ e. e.fault ≢ Fault.WriteDevice → e.is_told ≡ true) }
 {

@@ -1,10 +1,10 @@
 //! Who is told why there is no output, and what is printed for it.
 
 ghost use Rattle.std.specs.Prelude.{◌≡◌, ℕ, IfOk, IfSome, List, None, Option, option_map, string_bytes, ⊤};
-ghost use Rattle.rj_fault.specs.declared.fault.Fault.{Fault};
+ghost use Rattle.rj_line.specs.declared.fault.Fault.{Fault};
 ghost use Rattle.rj_files.specs.Told.{told_text, without_side};
 
-use rj_fault::Fault;
+use rj_line::fault::Fault;
 use std::alloc::{AllocError, Global};
 use std::fmt::{self, Display};
 

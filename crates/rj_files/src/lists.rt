@@ -1,17 +1,18 @@
 //! Lists of types that are in files: `@FILE` in the place of a list.
 
-ghost use Rattle.std.specs.Prelude.{◌≡◌, ◌==◌, IfErr, IfOk, IfSome, MatchOption, None, Ok, Some, drop, false, map, string_bytes, true};
+ghost use Rattle.std.specs.Prelude.{◌≡◌, ◌==◌, ℕ, IfErr, IfOk, IfSome, List, MatchOption, None, Ok, Some, drop, false, map, string_bytes, true};
 ghost use Rattle.std.specs.List.{after_first, before_first};
 ghost use Rattle.rj_files.specs.Asking.{ask_for_lines};
-ghost use Rattle.rj_files.specs.Labels.{AreReadWords, IsListFault, IsListsFault, IsReadWord, IsUnreadOf, IsWordFault, bad_list_fault, file_label, is_file, label_of, named_file, unread_name};
-ghost use Rattle.rj_files.specs.Told.{IsKept};
+ghost use Rattle.rj_files.specs.Labels.{AreReadWords, IsListError, IsListFault, IsListLine, IsListsError, IsReadWord, IsUnreadOf, IsWordError, bad_list_fault, file_label, is_file, label_of, named_file, unread_name};
+ghost use Rattle.rj_files.specs.Told.{IsKept, IsThere};
+ghost use Rattle.rj_line.specs.Listed.{list_in};
 
 use crate::asking::ask_for_lines;
 use crate::explained::ExplainedFault;
 use crate::named::{open_file, told_by_system, why_unread};
 use crate::reading::{FileLabel, OpenStream, read_bytes, unopened};
-use rj_fault::{Fault, Side, texts_of};
-use rj_suggest::list_of_lines;
+use rj_line::fault::{Fault, Side, texts_of};
+use rj_line::suggest::list_of_lines;
 use std::alloc::{AllocError, Global};
 use std::fs::Files;
 
@@ -83,8 +84,9 @@ fn with_list<R: Files + AllocGlobal>(
     explain: bool,
 ) -> Result<Option<String>, ExplainedFault>
     ensures list { IfOk result (λ o. MatchOption o (file_label None word.now ≡ None) (λ s. IsReadWord None word.now (string_bytes s))) }
-    ensures fault { IfErr result (λ e. IsWordFault None word.now e.fault e.file) }
+    ensures fault { IfErr result (IsWordError None word.now explain) }
     ensures unasked { explain ≡ false → IfErr result (λ e. e.lines ≡ Ok None) }
+    ensures told { IfErr result (λ e. e.is_told ≡ true) }
 {
     let Some(
         NamedFile {
@@ -117,7 +119,8 @@ fn read_file<R: Files + AllocGlobal>(rt: &R, name: &str, label: FileLabel) -> Re
 
 // The list that a file has, or why it has none.
 fn read_list<R: Files + AllocGlobal>(rt: &R, file: &str, label: FileLabel) -> Result<String, Fault>
-    ensures { IfErr result (IsListFault label) }
+    ensures list { IfOk result (λ s. (bytes : List ℕ) × (string_bytes s ≡ list_in bytes)) }
+    ensures fault { IfErr result (IsListFault label) }
 {
     let bytes = read_file(rt, file, label)?;
     match list_of_lines(rt.alloc(), bytes.as_slice())? {
@@ -131,7 +134,9 @@ fn unread_line<R: Files + AllocGlobal>(
     rt: &R,
     file: &str,
     fault: &Fault,
-) -> Result<String, AllocError> {
+) -> Result<String, AllocError>
+    ensures { IfOk result (λ s. IsListLine file.now fault.now (string_bytes s)) }
+{
     let alloc = rt.alloc();
     match fault {
         Fault::ReadDevice(_) | Fault::SharedReadDevice => {
@@ -167,6 +172,8 @@ fn unlisted<R: Files + AllocGlobal>(
     ensures fault { result.fault ≡ fault }
     ensures file { IsKept result.file (unread_name file.now fault) }
     ensures unasked { explain ≡ false → result.lines ≡ Ok None }
+    ensures asked { explain ≡ true → IsThere result.lines (IsListLine file.now fault) }
+    ensures told { result.is_told ≡ true }
 {
     let name = unread_name(rt.alloc(), file, &fault);
     if !explain {
@@ -183,9 +190,10 @@ fn list_of<R: Files + AllocGlobal>(
     label: FileLabel,
     explain: bool,
 ) -> Result<String, ExplainedFault>
-    ensures fault { IfErr result (λ e. IsListFault label e.fault) }
-    ensures file { IfErr result (λ e. IsKept e.file (unread_name file.now e.fault)) }
+    ensures list { IfOk result (λ s. (bytes : List ℕ) × (string_bytes s ≡ list_in bytes)) }
+    ensures fault { IfErr result (λ e. IsListError explain e label file.now) }
     ensures unasked { explain ≡ false → IfErr result (λ e. e.lines ≡ Ok None) }
+    ensures told { IfErr result (λ e. e.is_told ≡ true) }
 {
     match read_list(rt, file, label) {
         Ok(list) => Ok(list),
@@ -202,8 +210,9 @@ fn with_its_list<R: Files + AllocGlobal>(
     explain: bool,
 ) -> Result<String, ExplainedFault>
     ensures read { IfOk result (λ s. IsReadWord label (string_bytes word) (string_bytes s)) }
-    ensures fault { IfErr result (λ e. IsWordFault label (string_bytes word) e.fault e.file) }
+    ensures fault { IfErr result (IsWordError label (string_bytes word) explain) }
     ensures unasked { explain ≡ false → IfErr result (λ e. e.lines ≡ Ok None) }
+    ensures told { IfErr result (λ e. e.is_told ≡ true) }
 {
     if let Some(label) = label {
         return match file_in(word.as_str()) {
@@ -238,7 +247,8 @@ pub fn read_lists<R: Files + AllocGlobal>(
     words: Vec<String>,
 ) -> Result<Vec<String>, ExplainedFault>
     ensures read { IfOk result (λ v. AreReadWords None (map string_bytes words.items) (map string_bytes v.items)) }
-    ensures fault { IfErr result (λ e. IsListsFault (map string_bytes words.items) e.fault e.file) }
+    ensures fault { IfErr result (IsListsError (map string_bytes words.items) (ask_for_lines (map string_bytes words.items))) }
+    ensures told { IfErr result (λ e. e.is_told ≡ true) }
     ensures unasked { ask_for_lines (map string_bytes words.items) ≡ false → IfErr result (λ e. e.lines ≡ Ok None) }
 {
     let explain = are_explained(rt.alloc(), words.as_slice())?;

@@ -7,7 +7,7 @@ ghost use Rattle.rj_files.specs.Memory.{IsMemoryTold, IsMoreTold, files_text, me
 use rj_command::{Line, Request, Sizes, early_sizes};
 use rj_engine::Counts;
 use rj_explain::Inputs;
-use rj_fault::Fault;
+use rj_line::fault::Fault;
 use std::alloc::{AllocError, Global};
 use std::thread::Threads;
 

@@ -2,7 +2,7 @@
 
 ghost use Rattle.std.specs.Prelude.{◌≡◌, ◌/◌};
 
-use rj_fault::Side;
+use rj_line::fault::Side;
 use std::fmt;
 
 /// Clears a line, with the cursor at its beginning: blanks for as many characters as the longest

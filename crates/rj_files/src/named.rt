@@ -3,7 +3,8 @@
 ghost use Rattle.std.specs.Prelude.{◌≡◌, codes, IfOk, List, MatchOption, None, Some, string_bytes, ℕ};
 ghost use Rattle.std.specs.Str.{bytes_eq};
 ghost use Rattle.rj_files.specs.Readers.{remaining_of};
-ghost use Rattle.rj_files.specs.Texts.{system_line};
+ghost use Rattle.rj_files.specs.FaultFiles.{table_name};
+ghost use Rattle.rj_files.specs.Texts.{IsSystemLine, system_line};
 
 use crate::reading::{OpenStream, Stream};
 use std::alloc::{AllocError, Global};
@@ -85,7 +86,8 @@ pub(crate) fn told_by_system(
     name: &str,
     error: &Option<io::Error>,
 ) -> Result<String, AllocError>
-    ensures { IfOk result (λ s. MatchOption error.now (string_bytes s ≡ system_line name.now None)
+    ensures line { IfOk result (λ s. IsSystemLine name.now (string_bytes s)) }
+    ensures words { IfOk result (λ s. MatchOption error.now (string_bytes s ≡ system_line name.now None)
         (λ _. (words : List ℕ) × (string_bytes s ≡ system_line name.now (Some words)))) }
 {
     let Some(error) = error else {
@@ -100,6 +102,8 @@ pub(crate) fn told_by_system(
 
 impl<R: Files + Input> Stream for NamedStream<'_, R> {
     type Reader = StreamReader<R::File, R::Reader>;
+
+    ghost explains = { λ s line. IsSystemLine (table_name s.name.now) line };
 
     fn open(&self) -> io::Result<OpenStream<StreamReader<R::File, R::Reader>>> {
         if is_standard_stream(self.name) {

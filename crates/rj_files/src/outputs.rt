@@ -1,12 +1,13 @@
 //! Where the result is written: to standard output, or to a file that is none of the tables.
 
-ghost use Rattle.std.specs.Prelude.{◌≡◌, ◌≢◌, IfOk, IfErr, None, Ok, OnOk, false, option_map, true};
+ghost use Rattle.std.specs.Prelude.{◌≡◌, ◌≢◌, ◌⊎◌, IfOk, IfErr, IsSome, None, Ok, OnOk, false, option_map, string_bytes, true};
 ghost use Rattle.rj_files.specs.Explained.{AreLinesOf};
 ghost use Rattle.rj_files.specs.FaultFiles.{fault_file};
 ghost use Rattle.rj_files.specs.Identities.{are_one_file};
 ghost use Rattle.rj_files.specs.Outputs.{AreAccepted, AreStandard, IsInputFault, IsJudged, file_of, input_path, judged, output_path};
 ghost use Rattle.rj_files.specs.Streams.{IsFaultOf, IsWrittenOf};
 ghost use Rattle.rj_files.specs.Told.{IsKept};
+ghost use Rattle.rj_files.specs.Unwritten.{IsFolderLine, IsUnmade, IsUnplacedTold};
 
 use crate::draft::{Draft, Unwritten};
 use crate::explained::ExplainedFault;
@@ -19,7 +20,7 @@ use crate::progress::Progress;
 use crate::reading::Stream;
 use crate::streams::write_streams;
 use rj_command::Line;
-use rj_fault::{Fault, Side};
+use rj_line::fault::{Fault, Side};
 use std::alloc::{AllocError, Global};
 use std::fs::Files;
 use std::io;
@@ -137,10 +138,13 @@ pub fn refuse_printed<I: Identities>(files: &I, name: &str) -> Result<(), Fault>
 
 // The error of an output that can't be made or put in its place, explained if that is asked for.
 fn unplaced(alloc: Global, line: &Line<'_>, refused: Unwritten) -> ExplainedFault
+    requires { IsSome (file_of (option_map (λ name. name.now) line.now.output)) }
     ensures fault { result.fault ≡ refused.fault }
     ensures told { refused.fault ≢ Fault.WriteDevice → result.is_told ≡ true }
     ensures other { refused.fault ≢ Fault.WriteDevice → result.lines ≡ Ok None }
     ensures unasked { line.now.explain ≡ false → result.lines ≡ Ok None }
+    ensures asked { line.now.explain ≡ true → refused.fault ≡ Fault.WriteDevice → result.is_told ≡ true
+        → IsUnplacedTold (option_map (λ name. name.now) line.now.output) result.lines }
 {
     let Unwritten {
         fault,
@@ -160,7 +164,9 @@ fn told_of_folder(
     alloc: Global,
     folder: &str,
     error: &Option<io::Error>,
-) -> Result<String, AllocError> {
+) -> Result<String, AllocError>
+    ensures { IfOk result (λ s. IsFolderLine (string_bytes s)) }
+{
     let name = format!(in alloc; "the folder {folder}")?;
     told_by_system(alloc, name.as_str(), error)
 }
@@ -179,11 +185,15 @@ where
     R: Files + AllocGlobal + Eprint + Threads + Wait + Clock + Sync,
     L: Stream,
     S: Stream,
+    requires { IsSome (file_of (option_map (λ name. name.now) line.old.output)) }
     ensures written { IfOk result (IsWrittenOf line.old line.new (L.tells left.now) (S.tells right.now)) }
     ensures fault { IfErr result (λ e. IsFaultOf line.old line.new (L.tells left.now) (S.tells right.now) e.fault) }
     ensures unasked { line.old.explain ≡ false → IfErr result (λ e. e.lines ≡ Ok None) }
     ensures asked { line.old.explain ≡ true → IfErr result (λ e. e.fault ≢ Fault.WriteDevice
-        → AreLinesOf line.old line.new (L.tells left.now) (S.tells right.now) e.fault e.lines) }
+        → IsUnmade (option_map (λ name. name.now) line.old.output) e.fault e.lines
+        ⊎ AreLinesOf line.old line.new (L.tells left.now) (S.tells right.now) (L.explains left.now) (S.explains right.now) e.fault e.lines) }
+    ensures unwritten { line.old.explain ≡ true → IfErr result (λ e. e.fault ≡ Fault.WriteDevice → e.is_told ≡ true
+        → IsUnplacedTold (option_map (λ name. name.now) line.old.output) e.lines) }
     ensures line { record line.new { request = line.old.request } ≡ line.old }
     ensures told { IfErr result (λ e. e.fault ≢ Fault.WriteDevice → e.is_told ≡ true) }
 {
@@ -220,7 +230,10 @@ where
     ensures fault { IfErr result (λ e. IsFaultOf line.old line.new (L.tells left.now) (S.tells right.now) e.fault) }
     ensures unasked { line.old.explain ≡ false → IfErr result (λ e. e.lines ≡ Ok None) }
     ensures asked { line.old.explain ≡ true → IfErr result (λ e. e.fault ≢ Fault.WriteDevice
-        → AreLinesOf line.old line.new (L.tells left.now) (S.tells right.now) e.fault e.lines) }
+        → IsUnmade (option_map (λ name. name.now) line.old.output) e.fault e.lines
+        ⊎ AreLinesOf line.old line.new (L.tells left.now) (S.tells right.now) (L.explains left.now) (S.explains right.now) e.fault e.lines) }
+    ensures unwritten { line.old.explain ≡ true → IfErr result (λ e. e.fault ≡ Fault.WriteDevice → e.is_told ≡ true
+        → IsUnplacedTold (option_map (λ name. name.now) line.old.output) e.lines) }
     ensures line { record line.new { request = line.old.request } ≡ line.old }
     ensures told { IfErr result (λ e. e.fault ≢ Fault.WriteDevice → e.is_told ≡ true) }
 {
@@ -257,7 +270,10 @@ where
     ensures fault { IfErr result (λ e. IsFaultOf line.old line.new (L.tells left.now) (S.tells right.now) e.fault) }
     ensures unasked { line.old.explain ≡ false → IfErr result (λ e. e.lines ≡ Ok None) }
     ensures asked { line.old.explain ≡ true → IfErr result (λ e. e.fault ≢ Fault.WriteDevice
-        → AreLinesOf line.old line.new (L.tells left.now) (S.tells right.now) e.fault e.lines) }
+        → IsUnmade (option_map (λ name. name.now) line.old.output) e.fault e.lines
+        ⊎ AreLinesOf line.old line.new (L.tells left.now) (S.tells right.now) (L.explains left.now) (S.explains right.now) e.fault e.lines) }
+    ensures unwritten { line.old.explain ≡ true → IfErr result (λ e. e.fault ≡ Fault.WriteDevice → e.is_told ≡ true
+        → IsUnplacedTold (option_map (λ name. name.now) line.old.output) e.lines) }
     ensures line { record line.new { request = line.old.request } ≡ line.old }
     ensures told { IfErr result (λ e. e.fault ≢ Fault.WriteDevice → e.is_told ≡ true) }
     ensures file { IfErr result (λ e. IsKept e.file

@@ -1,17 +1,18 @@
-//! The progress of a run, shown on standard error if that is a terminal. No contract says when it
-//! is shown: the runs of `rj_command` meet theirs for every watch.
+//! The progress of a run, shown on standard error if that is a terminal. Contracts say of which
+//! runs it isn't shown, and none says when it is: the runs of `rj_command` meet theirs for every
+//! watch.
 
-ghost use Rattle.std.specs.Prelude.{◌≡◌, option_map};
+ghost use Rattle.std.specs.Prelude.{◌≡◌, false, option_map, true};
 ghost use Rattle.rj_files.specs.Outputs.{input_side};
 ghost use Rattle.rj_files.specs.Shares.{cuts_of, handed, joined, parts, share};
-ghost use Rattle.rj_files.specs.Terminals.{shares_terminal, side_by_hand};
+ghost use Rattle.rj_files.specs.Terminals.{is_shown, shares_terminal, side_by_hand};
 
 use crate::message::{CLEARED, Message};
 use crate::named::is_standard_stream;
 use crate::outputs::output_of;
 use rj_command::{Gate, Line, Place, Step, Watch};
-use rj_fault::Side;
 use rj_line::Request;
+use rj_line::fault::Side;
 use std::sync::Wait;
 use std::sync::atomic::{AtomicBool, AtomicU64, Ordering};
 use std::thread::Parker;
@@ -64,8 +65,9 @@ pub struct Progress<'a, R> {
     shares_terminal: bool,
     by_hand: Option<Side>,
     cuts: Cuts,
-    // The time of the clock, in milliseconds, from which it is shown, and from which a further line
-    // of a step is.
+    // Whether it is shown at all, the time of the clock, in milliseconds, from which it is, and from
+    // which a further line of a step is.
+    is_shown: bool,
     from: u64,
     next: AtomicU64,
     // Whether a line is there, and whether none is shown any more.
@@ -222,6 +224,7 @@ impl<'a, R: Clock> Progress<'a, R> {
     pub fn of(rt: &'a R, line: &Line<'_>, terminals: Terminals) -> Progress<'a, R>
         ensures runtime { result.rt ≡ rt.entry }
         ensures cuts { result.cuts ≡ cuts_of line.now.request }
+        ensures shown { result.is_shown ≡ is_shown terminals line.now.quiet }
         ensures terminal { result.shares_terminal ≡ shares_terminal terminals (option_map (λ name. name.now) line.now.output) }
         ensures by_hand { result.by_hand ≡ side_by_hand terminals line.now.left.now line.now.right.now }
     {
@@ -235,7 +238,9 @@ impl<'a, R: Clock> Progress<'a, R> {
     }
 
     /// Progress that is never shown.
-    pub(crate) fn hidden(rt: &'a R) -> Progress<'a, R> {
+    pub(crate) fn hidden(rt: &'a R) -> Progress<'a, R>
+        ensures { result.is_shown ≡ false }
+    {
         let cuts = Cuts {
             workers: 1,
             partitions: 1,
@@ -249,16 +254,18 @@ impl<'a, R: Clock> Progress<'a, R> {
     fn from(rt: &'a R, from: u64, cuts: Cuts, is_shown: bool) -> Progress<'a, R>
         ensures runtime { result.rt ≡ rt.entry }
         ensures cuts { result.cuts ≡ cuts }
+        ensures shown { result.is_shown ≡ is_shown }
     {
         Progress {
             rt,
             shares_terminal: false,
             by_hand: None,
             cuts,
+            is_shown,
             from,
             next: AtomicU64::new(from),
             stands: AtomicBool::new(false),
-            is_over: AtomicBool::new(!is_shown),
+            is_over: AtomicBool::new(false),
             has_ended: AtomicBool::new(false),
             parker: Parker::new(),
             stage: AtomicU64::new(0),
@@ -286,8 +293,10 @@ impl<'a, R: Clock> Progress<'a, R> {
 
     // Whether a further line of a step is to be shown. Among threads that ask at the same time, one
     // gets the answer yes.
-    fn is_due(&self) -> bool {
-        if self.is_over.load(Ordering::SeqCst) {
+    fn is_due(&self) -> bool
+        ensures { self.now.is_shown ≡ false → result ≡ false }
+    {
+        if !self.is_shown || self.is_over.load(Ordering::SeqCst) {
             return false;
         }
         let now = milliseconds(self.rt);
@@ -302,8 +311,10 @@ impl<'a, R: Clock> Progress<'a, R> {
 
     // Whether the first line of a step is to be shown. The step may be a long one without a further
     // line.
-    fn is_begun(&self) -> bool {
-        if self.is_over.load(Ordering::SeqCst) {
+    fn is_begun(&self) -> bool
+        ensures { self.now.is_shown ≡ false → result ≡ false }
+    {
+        if !self.is_shown || self.is_over.load(Ordering::SeqCst) {
             return false;
         }
         let now = milliseconds(self.rt);
@@ -399,8 +410,11 @@ impl<'a, R: Clock> Progress<'a, R> {
 
     /// Whether lines may be shown until the run ends. If rows go to a terminal, they may only until
     /// these come.
-    pub fn is_shown_throughout(&self) -> bool {
-        !self.shares_terminal && !self.is_over.load(Ordering::SeqCst)
+    pub fn is_shown_throughout(&self) -> bool
+        ensures shown { self.now.is_shown ≡ false → result ≡ false }
+        ensures terminal { self.now.shares_terminal ≡ true → result ≡ false }
+    {
+        self.is_shown && !self.shares_terminal && !self.is_over.load(Ordering::SeqCst)
     }
 
     /// The run has ended: whoever [keeps the line up to date](Progress::keep_up) returns.

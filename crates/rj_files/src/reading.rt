@@ -1,6 +1,6 @@
 //! The bytes of a table, from a stream that is opened only when they are needed.
 
-ghost use Rattle.std.specs.Prelude.{◌≡◌, ◌≢◌, ◌⊎◌, ℕ, List, Option, None, IfOk, IfErr, string_bytes};
+ghost use Rattle.std.specs.Prelude.{◌≡◌, ◌≢◌, ◌⊎◌, ℕ, List, Option, None, IfOk, IfErr, string_bytes, ⊤};
 ghost use Rattle.std.specs.Io.KnownBytes.{Keeps};
 ghost use Rattle.std.specs.IoError.{error_kind};
 ghost use Rattle.rj_files.specs.Labels.{IsUnreadOf, unread_fault};
@@ -10,7 +10,7 @@ ghost use Rattle.rj_files.specs.Texts.{IsIndented};
 use crate::progress::Progress;
 use crate::watched::WatchedReader;
 use rj_csv_io::{CountedReader, ReadRefused, read_all};
-use rj_fault::{Fault, Side};
+use rj_line::fault::{Fault, Side};
 use std::alloc::{AllocError, Global};
 use std::io::{self, ErrorKind, Read};
 use std::time::Clock;
@@ -22,6 +22,9 @@ pub trait Stream {
 
     // The bytes, if they are known before it is opened.
     ghost tells: { Self → Option (List ℕ) } = { λ _. None };
+
+    // Which line may explain why it can't be opened or read.
+    ghost explains: { Self → List ℕ → Type 0 } = { λ _ _. ⊤ };
 
     /// Opens it, before anything is read from it.
     ///
@@ -37,7 +40,7 @@ pub trait Stream {
     ///
     /// It fails only when memory runs out.
     fn explain_unread(&self, alloc: Global) -> Result<String, AllocError>
-        ensures { IfOk result (λ s. IsIndented (string_bytes s)) };
+        ensures { IfOk result (λ s. IsIndented (string_bytes s) × explains self.now (string_bytes s)) };
 }
 
 /// A stream that was just opened.

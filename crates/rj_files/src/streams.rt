@@ -1,9 +1,11 @@
 //! From two streams of bytes to the bytes of their joined table.
 
-ghost use Rattle.std.specs.Prelude.{◌≡◌, ◌≢◌, ◌⊎◌, IfOk, IfErr, None, Ok, false, string_bytes, true};
+ghost use Rattle.std.specs.Prelude.{◌≡◌, ◌≢◌, ◌⊎◌, IfOk, IfErr, None, Ok, false, option_map, string_bytes, true};
 ghost use Rattle.rj_files.specs.Explained.{AreLinesOf, IsUnreadExplained};
 ghost use Rattle.rj_files.specs.Streams.{AreBytesOf, IsFaultOf, IsUnread, WritesOf};
-ghost use Rattle.rj_files.specs.Texts.{IsIndented, unread_memory_text};
+ghost use Rattle.rj_files.specs.FaultFiles.{output_name};
+ghost use Rattle.rj_files.specs.Texts.{IsIndented, IsSystemLine, unread_memory_text};
+ghost use Rattle.rj_files.specs.Told.{IsThere};
 
 use crate::explained::ExplainedFault;
 use crate::given::given_tables;
@@ -12,7 +14,7 @@ use crate::progress::Progress;
 use crate::reading::{Stream, read_stream};
 use crate::taking::complete_line;
 use rj_command::Line;
-use rj_fault::{Fault, Side};
+use rj_line::fault::{Fault, Side};
 use std::alloc::{AllocError, Global};
 use std::io::Write;
 use std::sync::Wait;
@@ -27,7 +29,7 @@ fn unread_lines<S: Stream>(
     fault: &Fault,
 ) -> Result<String, AllocError>
     ensures memory { fault.now ≡ Fault.Memory → IfOk result (λ text. string_bytes text ≡ unread_memory_text side) }
-    ensures other { fault.now ≢ Fault.Memory → IfOk result (λ text. IsIndented (string_bytes text)) }
+    ensures other { fault.now ≢ Fault.Memory → IfOk result (λ text. IsIndented (string_bytes text) × S.explains stream.now (string_bytes text)) }
 {
     match fault {
         Fault::Memory => format!(in alloc; "  while the {side} file was read\n"),
@@ -46,7 +48,7 @@ fn read_side<R: AllocGlobal + Eprint + Clock, S: Stream>(
     ensures bytes { IfOk result (λ v. AreBytesOf (S.tells stream.now) v.items) }
     ensures fault { IfErr result (λ e. IsUnread side e.fault) }
     ensures unasked { line.now.explain ≡ false → IfErr result (λ e. e.lines ≡ Ok None) }
-    ensures asked { line.now.explain ≡ true → IfErr result (λ e. IsUnreadExplained side e.fault e.lines) }
+    ensures asked { line.now.explain ≡ true → IfErr result (λ e. IsUnreadExplained side (S.explains stream.now) e.fault e.lines) }
     ensures told { IfErr result (λ e. e.is_told ≡ true) }
 {
     let alloc = rt.alloc();
@@ -74,7 +76,8 @@ fn read_both<R: AllocGlobal + Eprint + Clock, L: Stream, S: Stream>(
     ensures right { IfOk result (λ tables. AreBytesOf (S.tells right.now) tables.right.items) }
     ensures fault { IfErr result (λ e. IsUnread Side.Left e.fault ⊎ IsUnread Side.Right e.fault) }
     ensures unasked { line.now.explain ≡ false → IfErr result (λ e. e.lines ≡ Ok None) }
-    ensures asked { line.now.explain ≡ true → IfErr result (λ e. IsUnreadExplained Side.Left e.fault e.lines ⊎ IsUnreadExplained Side.Right e.fault e.lines) }
+    ensures asked { line.now.explain ≡ true → IfErr result (λ e.
+        IsUnreadExplained Side.Left (L.explains left.now) e.fault e.lines ⊎ IsUnreadExplained Side.Right (S.explains right.now) e.fault e.lines) }
     ensures told { IfErr result (λ e. e.is_told ≡ true) }
 {
     let left = match read_side(rt, line, progress, left, Side::Left) {
@@ -118,7 +121,9 @@ where
     ensures fault { IfErr result.0 (λ e. IsFaultOf line.old line.new (L.tells left.now) (S.tells right.now) e.fault) }
     ensures unasked { line.old.explain ≡ false → IfErr result.0 (λ e. e.lines ≡ Ok None) }
     ensures asked { line.old.explain ≡ true → IfErr result.0 (λ e. e.fault ≢ Fault.WriteDevice
-        → AreLinesOf line.old line.new (L.tells left.now) (S.tells right.now) e.fault e.lines) }
+        → AreLinesOf line.old line.new (L.tells left.now) (S.tells right.now) (L.explains left.now) (S.explains right.now) e.fault e.lines) }
+    ensures unwritten { line.old.explain ≡ true → IfErr result.0 (λ e. e.fault ≡ Fault.WriteDevice → e.is_told ≡ true
+        → IsThere e.lines (IsSystemLine (output_name (option_map (λ name. name.now) line.old.output)))) }
     ensures line { record line.new { request = line.old.request } ≡ line.old }
     ensures unchanged { IfErr result.0 (λ e. e.fault ≢ Fault.WriteDevice → result.1 ≡ writer) }
     ensures told { IfErr result.0 (λ e. e.fault ≢ Fault.WriteDevice → e.is_told ≡ true) }

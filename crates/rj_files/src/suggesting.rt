@@ -5,8 +5,11 @@ ghost use Rattle.rj_csv_io.specs.Typed.{null_texts};
 ghost use Rattle.rj_explain.specs.Explained.{header_names};
 ghost use Rattle.rj_explain.specs.Hints.{separator_line};
 ghost use Rattle.rj_files.specs.Alone.{AreLinesAlone};
+ghost use Rattle.rj_files.specs.FaultFiles.{output_name};
 ghost use Rattle.rj_files.specs.Streams.{AreBytesOf, IsStrictlyUnsuggested, IsSuggestedBy, IsUnsuggested, IsUnsuggestedBy, WritesSuggested, fault_of_refused};
-ghost use Rattle.rj_suggest.specs.Strict.{IsStrictListing};
+ghost use Rattle.rj_files.specs.Texts.{IsSystemLine};
+ghost use Rattle.rj_files.specs.Told.{IsThere};
+ghost use Rattle.rj_line.specs.StrictListings.{IsStrictListing};
 
 use crate::alone::{Suggesting, explained_alone, unread_alone};
 use crate::explained::ExplainedFault;
@@ -17,9 +20,9 @@ use crate::recording::ErrorRecordingWriter;
 use rj_command::fault_of_text;
 use rj_csv_io::{CountedWriter, InputFormat, Output};
 use rj_explain::{Shown, explain_separator};
-use rj_fault::{Fault, Side};
 use rj_line::Strictness;
-use rj_suggest::{
+use rj_line::fault::{Fault, Side};
+use rj_line::suggest::{
     ListedColumns, Misfit, StrictlyRefused, Suggestion, suggest_listed, suggest_listed_strictly,
 };
 use std::alloc::{AllocError, Global};
@@ -91,7 +94,7 @@ fn suggested<R: AllocGlobal + Eprint + Clock, S: Stream>(
         × IfOk found.separator (λ s. string_bytes s ≡ separator_line None format.now.delimiter (header_names format.now.delimiter bytes))) }
     ensures fault { IfErr result (λ e. IsUnsuggested asked.strict format.now.delimiter (null_texts format.now.nulls.now) (S.tells stream.now) e.fault) }
     ensures unasked { asked.explain ≡ false → IfErr result (λ e. e.lines ≡ Ok None) }
-    ensures asked { asked.explain ≡ true → IfErr result (λ e. AreLinesAlone asked.strict format.now.delimiter (S.tells stream.now) e.fault e.lines) }
+    ensures asked { asked.explain ≡ true → IfErr result (λ e. AreLinesAlone asked.strict format.now.delimiter (S.tells stream.now) (S.explains stream.now) e.fault e.lines) }
     ensures told { IfErr result (λ e. e.is_told ≡ true) }
 {
     let alloc = rt.alloc();
@@ -183,7 +186,9 @@ where
     ensures unchanged { IfErr result.0 (λ e. e.fault ≢ Fault.WriteDevice → result.1 ≡ writer) }
     ensures unasked { asked.explain ≡ false → IfErr result.0 (λ e. e.lines ≡ Ok None) }
     ensures asked { asked.explain ≡ true → IfErr result.0 (λ e. e.fault ≢ Fault.WriteDevice
-        → AreLinesAlone asked.strict format.now.delimiter (S.tells stream.now) e.fault e.lines) }
+        → AreLinesAlone asked.strict format.now.delimiter (S.tells stream.now) (S.explains stream.now) e.fault e.lines) }
+    ensures unwritten { asked.explain ≡ true → IfErr result.0 (λ e. e.fault ≡ Fault.WriteDevice → e.is_told ≡ true
+        → IsThere e.lines (IsSystemLine (output_name None))) }
     ensures told { IfErr result.0 (λ e. e.fault ≢ Fault.WriteDevice → e.is_told ≡ true) }
 {
     let found = match suggested(rt, stream, format, asked) {

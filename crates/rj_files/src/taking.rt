@@ -1,13 +1,13 @@
 //! The types that a line takes from the cells of its tables, and what is told of them.
 
-ghost use Rattle.std.specs.Prelude.{◌≡◌, IfErr, OnOk};
+ghost use Rattle.std.specs.Prelude.{◌≡◌, IfErr, OnErr, OnOk, true};
 ghost use Rattle.rj_files.specs.Streams.{IsCompletedLine};
 
 use crate::joining::Tables;
 use crate::progress::Progress;
 use rj_command::{Line, TypeEntry, complete_types};
-use rj_fault::Fault;
-use rj_suggest::list_of_entries;
+use rj_line::fault::Fault;
+use rj_line::suggest::list_of_entries;
 use std::time::Clock;
 
 // Tells the types that were taken for the columns of a file.
@@ -53,15 +53,19 @@ pub(crate) fn complete_line<R: AllocGlobal + Clock + Eprint>(
 ) -> Result<(), Fault>
     ensures completed { OnOk result (IsCompletedLine tables.now.left.items tables.now.right.items line.old line.new) }
     ensures fault { IfErr result (λ f. f ≡ Fault.Memory) }
+    ensures auto_types { OnErr result (line.old.request.auto_types ≡ true) }
     ensures line { record line.new { request = line.old.request } ≡ line.old }
 {
+    if !line.request.auto_types {
+        return Ok(());
+    }
     let (lefts, rights) = (
         line.request.left_types.len(),
         line.request.right_types.len(),
     );
     let (left, right) = (tables.left.as_slice(), tables.right.as_slice());
     complete_types(rt.alloc(), left, right, &mut line.request)?;
-    if line.request.auto_types && !line.quiet {
+    if !line.quiet {
         progress.clear();
         tell_taken(rt, line, lefts, rights);
     }

@@ -3,7 +3,7 @@
 ghost use Rattle.std.specs.Prelude.{◌≡◌};
 
 use crate::progress::Progress;
-use rj_fault::Side;
+use rj_line::fault::Side;
 use std::io::{self, Read, Write};
 use std::time::Clock;
 

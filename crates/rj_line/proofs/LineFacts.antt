@@ -6,10 +6,10 @@ use Rattle.clap.specs.Words.{IsAmong, Text, fault_of, kind_of}
 use Rattle.clap.specs.declared.error.Error.{Error}
 use Rattle.clap.specs.declared.error.kind.ErrorKind.{ErrorKind}
 use Rattle.clap.specs.declared.error.kind.ErrorKind.TheVariants as kind
-use Rattle.rj_fault.specs.Faults.{clap_fault, fault_by}
-use Rattle.rj_fault.specs.declared.fault.Fault.{Fault}
-use Rattle.rj_fault.specs.declared.fault.Fault.TheVariants as fault
-use Rattle.rj_fault.specs.declared.fault.Side.TheVariants as side
+use Rattle.rj_line.specs.Faults.{clap_fault, fault_by}
+use Rattle.rj_line.specs.declared.fault.Fault.{Fault}
+use Rattle.rj_line.specs.declared.fault.Fault.TheVariants as fault
+use Rattle.rj_line.specs.declared.fault.Side.TheVariants as side
 use Rattle.rj_line.specs.Choices.{IsChoiceFault}
 use Rattle.rj_line.specs.Delimiters.{AreDelimitersOf}
 use Rattle.rj_line.specs.declared.delimiters.Delimiters.{Delimiters}
@@ -18,7 +18,7 @@ use Rattle.rj_line.specs.Options.{OptionWords}
 use Rattle.rj_line.specs.Types.{GivesNoShared, GivesNoTypes, GivesTypes}
 use Rattle.rj_line.specs.declared.form.Form.{Form}
 use Rattle.rj_line.specs.declared.request.Request.{Request}
-use Rattle.rj_types.specs.declared.entry.TypeEntry.{TypeEntry}
+use Rattle.rj_settings.specs.declared.types.entry.TypeEntry.{TypeEntry}
 
 abbrev is_memory : Fault → Bool
 is_memory fault.Memory = true

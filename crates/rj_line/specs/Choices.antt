@@ -3,8 +3,8 @@ use Rattle.std.specs.Prelude.{◌≡◌, ◌≢◌, ◌≤◌, ◌==◌, ◌||�
 use Rattle.std.specs.List.{count_by, list_all, slice_split}
 use Rattle.std.specs.Str.{bytes_eq}
 use Rattle.clap.specs.Words.{Text}
-use Rattle.rj_fault.specs.declared.fault.Fault.{Fault}
-use Rattle.rj_fault.specs.declared.fault.Fault.TheVariants as fault
+use Rattle.rj_line.specs.declared.fault.Fault.{Fault}
+use Rattle.rj_line.specs.declared.fault.Fault.TheVariants as fault
 use Rattle.rj_settings.specs.declared.choice.Choice.{Choice}
 use Rattle.rj_settings.specs.declared.choice.ColumnChoice.{ColumnChoice}
 use Rattle.rj_settings.specs.declared.choice.ColumnChoice.TheVariants as column
@@ -13,7 +13,7 @@ use Rattle.rj_settings.specs.declared.choice.Repeated.TheVariants as repeated
 use Rattle.rj_settings.specs.declared.choice.RowKinds.{RowKinds}
 use Rattle.rj_settings.specs.declared.choice.RowOrder.{RowOrder}
 use Rattle.rj_settings.specs.declared.choice.RowOrder.TheVariants as order
-use Rattle.rj_types.specs.Selected.{IsSelectList}
+use Rattle.rj_settings.specs.Selected.{IsSelectList}
 use Rattle.rj_line.specs.Forms.{default_repeated}
 use Rattle.rj_line.specs.Named.{IsNamedOr, is_true}
 use Rattle.rj_line.specs.declared.form.Form.{Form}

@@ -3,7 +3,7 @@ use Rattle.std.specs.Prelude.{◌≡◌, ◌||◌, ◌&&◌, if◌then◌else◌
 use Rattle.std.specs.Option.{option_or}
 use Rattle.std.specs.Str.{bytes_eq}
 use Rattle.clap.specs.Words.{Text}
-use Rattle.rj_strict.specs.Grammar.{comma, may_delimit}
+use Rattle.rj_csv_io.specs.Grammar.{comma, may_delimit}
 use Rattle.rj_line.specs.declared.delimiters.Delimiters.{Delimiters}
 
 -- a byte that may delimit is a delimiter

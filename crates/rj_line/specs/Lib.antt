@@ -6,3 +6,12 @@ pub mod Options
 pub mod Choices
 pub mod Delimiters
 pub mod Named
+pub mod Faults
+pub mod Listed
+pub mod Misfits
+pub mod StrictListings
+pub mod Suggested
+pub mod Entries
+pub mod Keys
+pub mod Report
+pub mod Script

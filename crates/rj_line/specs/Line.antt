@@ -8,9 +8,9 @@ use Rattle.clap.specs.declared.parser.matches.ArgMatches.{ArgMatches}
 use Rattle.clap.specs.declared.parser.matches.Found.{Found}
 use Rattle.rj_csv_io.specs.Typed.{null_texts}
 use Rattle.rj_settings.specs.declared.settings.Settings.{Settings}
-use Rattle.rj_fault.specs.declared.fault.Fault.{Fault}
-use Rattle.rj_fault.specs.declared.fault.Fault.TheVariants as fault
-use Rattle.rj_fault.specs.declared.fault.Side.TheVariants as side
+use Rattle.rj_line.specs.declared.fault.Fault.{Fault}
+use Rattle.rj_line.specs.declared.fault.Fault.TheVariants as fault
+use Rattle.rj_line.specs.declared.fault.Side.TheVariants as side
 use Rattle.rj_line.specs.declared.line.Line.{Line}
 use Rattle.rj_line.specs.declared.request.Hash.{Hash}
 use Rattle.rj_line.specs.declared.request.Hash.TheVariants as hash
@@ -28,7 +28,7 @@ use Rattle.rj_line.specs.Named.{IsNameOf, IsNamedOr, is_true, is_word}
 use Rattle.rj_line.specs.Options.{OptionWords, line_app}
 use Rattle.rj_line.specs.Types.{AreTypesOf, GivesNoShared, GivesNoTypes, GivesShared, GivesTypes, is_auto}
 use Rattle.rj_line.specs.declared.form.Form.{Form}
-use Rattle.rj_types.specs.declared.entry.TypeEntry.{TypeEntry}
+use Rattle.rj_settings.specs.declared.types.entry.TypeEntry.{TypeEntry}
 
 -- the options by which the words of a line of this form are read
 abbrev pub app_for : Form → OptionWords → List Text → App

@@ -5,9 +5,9 @@ use Rattle.rj_line.specs.Forms.{is_short}
 use Rattle.rj_line.specs.Named.{is_word}
 use Rattle.rj_line.specs.declared.form.Form.{Form}
 use Rattle.rj_line.specs.declared.form.Form.TheVariants as form
-use Rattle.rj_types.specs.Columns.{is_open, with_shared, with_texts}
-use Rattle.rj_types.specs.Lists.{IsSharedList, IsTypeList}
-use Rattle.rj_types.specs.declared.entry.TypeEntry.{TypeEntry}
+use Rattle.rj_settings.specs.Columns.{is_open, with_shared, with_texts}
+use Rattle.rj_settings.specs.Lists.{IsSharedList, IsTypeList}
+use Rattle.rj_settings.specs.declared.types.entry.TypeEntry.{TypeEntry}
 
 -- an option's value is a list of these types; only in the short form it may be missing, and then
 -- lists none

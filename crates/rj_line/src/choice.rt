@@ -11,12 +11,12 @@ ghost use Rattle.rj_line.specs.Choices as choices;
 ghost use Rattle.rj_line.specs.Choices.{AreColumnsOf, AreKinds, AreNamedColumns, AreRowsOf, GivesNoColumns, GivesNoRows, GivesSide, IsAskedOnce, IsChoiceFault, IsChoiceOf, IsRepeatedOr, StandsWhere, columns_word, order_name, rows_word, unsaid_repeated};
 ghost use Rattle.rj_line.specs.Named.{IsNameOf, IsNamedOr};
 
+use crate::fault::Fault;
 use crate::flags::{has_value, is_given};
 use crate::form::{Form, default_repeated};
 use clap::ArgMatches;
-use rj_fault::Fault;
+use rj_settings::types::read_selected;
 use rj_settings::{Choice, ColumnChoice, Repeated, RowKinds, RowOrder};
-use rj_types::read_selected;
 use std::alloc::{AllocError, Global};
 
 // Whether a word is the name of a kind of rows.

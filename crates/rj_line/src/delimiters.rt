@@ -7,7 +7,7 @@ ghost use Rattle.rj_line.specs.Delimiters as specs;
 ghost use Rattle.rj_line.specs.Delimiters.{AreDelimitersOf, are_delimiters_given, delimiter_at, delimiter_named};
 
 use clap::ArgMatches;
-use rj_strict::Delimiter;
+use rj_csv_io::strict::Delimiter;
 
 // The delimiter that is this byte, if it may delimit.
 fn delimiter_at(byte: u8) -> Option<Delimiter>

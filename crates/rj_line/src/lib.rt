@@ -1,9 +1,13 @@
 //! The command line of a join: its options, and the request that its words make.
+//!
+//! [`fault`] says why a program ended without its output. [`suggest`] has the types that a file
+//! suggests. [`script`] replays scripts of arrivals at a partition.
 #![tactic(auto)]
 
 mod choice;
 mod delimiters;
 mod expecting;
+pub mod fault;
 mod flags;
 mod form;
 mod help;
@@ -11,6 +15,8 @@ mod line;
 mod nulls;
 mod options;
 mod request;
+pub mod script;
+pub mod suggest;
 mod types;
 
 pub use delimiters::delimiter_of;

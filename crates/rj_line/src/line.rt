@@ -12,6 +12,7 @@ ghost use Rattle.rj_line.specs.Line.{AreNumbersIn, AreSettings, HasValues, IsCho
 use crate::choice::{choice_of, is_looked_for};
 use crate::delimiters::{Delimiters, delimiters_of};
 use crate::expecting::{expectation_of, number_of};
+use crate::fault::{Fault, Side};
 use crate::flags::{has_value, is_given, is_word};
 use crate::form::{
     Form, default_strictness, default_workers, explains_by_word, form_of, is_explained, is_short,
@@ -21,7 +22,6 @@ use crate::options::line_command;
 use crate::request::{Hash, Request, Strictness};
 use crate::types::{is_auto, shared_types_of, types_of};
 use clap::{ArgMatches, Error};
-use rj_fault::{Fault, Side};
 use rj_settings::{Choice, Settings};
 use std::alloc::Global;
 

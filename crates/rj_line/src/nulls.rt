@@ -5,8 +5,8 @@ ghost use Rattle.clap.specs.Words.{found_of};
 ghost use Rattle.rj_csv_io.specs.Typed.{null_texts};
 ghost use Rattle.rj_line.specs.Line.{nulls_or, texts_found};
 
+use crate::fault::{Fault, Side};
 use clap::ArgMatches;
-use rj_fault::{Fault, Side};
 use std::alloc::Global;
 
 // How many texts may stand for NULL in one table.

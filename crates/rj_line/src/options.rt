@@ -5,10 +5,10 @@ ghost use Rattle.clap.specs.Words.{rule_of};
 ghost use Rattle.rj_line.specs.Options as specs;
 ghost use Rattle.rj_line.specs.Options.{IsChain, IsLineCommand, own_rules, rule_of_option};
 
+use crate::fault::VERSION;
 use crate::form::Form;
 use crate::help::HELP;
 use clap::{Arg, ArgAction, Command, value_parser};
-use rj_fault::VERSION;
 use std::alloc::{AllocError, Global};
 
 // What an option takes.

@@ -1,8 +1,8 @@
 //! What a join is asked to do.
 
+use rj_csv_io::strict::Delimiter;
+use rj_settings::types::TypeEntry;
 use rj_settings::{Choice, Expectation, Settings};
-use rj_strict::Delimiter;
-use rj_types::TypeEntry;
 
 /// The hash of a row's key, whose bits choose the row's partition. No choice changes the rows of a
 /// join.

@@ -4,14 +4,16 @@ ghost use Rattle.std.specs.Prelude.{◌≡◌, ◌≢◌, ◌&&◌, IfOk, IfErr,
 ghost use Rattle.clap.specs.Words.{first_value, found_of};
 ghost use Rattle.rj_line.specs.Forms.{is_short};
 ghost use Rattle.rj_line.specs.Types.{AreTypesOf, GivesNoShared, GivesNoTypes, GivesShared, GivesTypes, completed, is_auto};
-ghost use Rattle.rj_types.specs.Columns.{is_open};
-ghost use Rattle.rj_types.specs.Lists.{IsTypeList};
+ghost use Rattle.rj_settings.specs.Columns.{is_open};
+ghost use Rattle.rj_settings.specs.Lists.{IsTypeList};
 
+use crate::fault::{Fault, Side};
 use crate::flags::is_word;
 use crate::form::{Form, is_short};
 use clap::ArgMatches;
-use rj_fault::{Fault, Side};
-use rj_types::{TypeEntry, is_open, read_list, read_shared_list, with_shared, with_texts};
+use rj_settings::types::{
+    TypeEntry, is_open, read_list, read_shared_list, with_shared, with_texts,
+};
 use std::alloc::{AllocError, Global};
 
 /// The entries of this side's type list, such as `int,num(4,1)` or `id=int,*=text`.

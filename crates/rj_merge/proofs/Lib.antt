@@ -14,6 +14,7 @@ pub mod WrittenFacts
 pub mod OpeningFacts
 pub mod HeapFacts
 pub mod PutFacts
+pub mod PartFacts
 pub mod RangeFacts
 pub mod CutFacts
 pub mod RangeLaws

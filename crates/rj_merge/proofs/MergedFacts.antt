@@ -1,5 +1,5 @@
 -- The merge of texts, by what the inputs give.
-use Rattle.std.proofs.Common.{◌≡◌, ◌∙◌, ℕ, List, [], ◌∷◌, ◌++◌, map, Some, refl, sym, ap, subst}
+use Rattle.std.proofs.Common.{◌≡◌, ◌∙◌, ℕ, List, [], ◌∷◌, ◌++◌, map, Option, Some, refl, sym, ap, subst, inr}
 use Rattle.std.specs.List.{zip}
 use Rattle.std.specs.Option.{option_to_list}
 use mathlib.Core.List.{map-map}
@@ -13,7 +13,7 @@ use Rattle.rj_merge.specs.declared.refused.MergeRefused.{MergeRefused}
 use Rattle.rj_merge.specs.Copies.{copied_rows}
 use Rattle.rj_merge.specs.Headers.{place_columns}
 use Rattle.rj_merge.specs.Inputs.{faults_of_readings, first_header, readings}
-use Rattle.rj_merge.specs.MergedTexts.{HaveNoFault, IsFaultOfTexts, IsMergedText, head_rows, lists_of_texts, records_text}
+use Rattle.rj_merge.specs.MergedTexts.{GotFirst, HaveNoFault, IsFaultOfTexts, IsMergedText, IsPartlyMerged, head_rows, lists_of_texts, records_text}
 use Rattle.rj_merge.specs.Merging.{IsFaultOf, faults_of_inputs, lists_of_inputs}
 use Rattle.rj_merge.specs.Sources.{Reading}
 use Rattle.rj_merge.specs.Texts.{others}
@@ -46,6 +46,14 @@ module _ {S : Type 0} (has : S → Copies) (gives : S → Reading (List (List �
     merge = subst (λ l. IsMergeOf (copied_rows l) rows) (sym lists_given) merge;
     shown = under-head how.delimiter (head_rows how.from (others columns first)) rows ∙ ap (λ (h : List (List ℕ)). rows_text how.delimiter (head_rows how.from (others columns h) ++ map (λ p. p.row) rows)) is;
   }
+
+  -- what was put of the merge of the inputs was put of the merge of the texts
+  pub partly_merged : (columns : Columns) (first : List (List ℕ)) (old new : Option (List ℕ)) → first ≡ first_header texts → place_columns first ≡ Some columns
+      → GotFirst how.delimiter (rows_text how.delimiter (head_rows how.from (others columns first))) (copied_rows (lists_of_inputs has gives sources)) old new → IsPartlyMerged how copies texts old new
+  partly_merged columns first old new is places got =
+      let head : List (List ℕ) → List ℕ = λ h. rows_text how.delimiter (head_rows how.from (others columns h)) in
+      let listed = subst (λ l. GotFirst how.delimiter (head first) (copied_rows l) old new) (sym lists_given) got in
+      inr (columns, ap place_columns (sym is) ∙ places, subst (λ h. GotFirst how.delimiter (head h) (copied_rows (lists_of_texts how copies texts)) old new) is listed)
 
   pub faultless : faults_of_inputs gives sources ≡ [] → HaveNoFault how texts
   faultless none = faults_given ∙ none

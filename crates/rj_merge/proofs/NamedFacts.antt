@@ -1,15 +1,15 @@
 -- Texts that are opened by their names.
-use Rattle.std.proofs.Common.{◌≡◌, ◌⊎◌, ◌+◌, ◌-◌, ◌<◌, ◌∙◌, ℕ, List, [], ◌∷◌, ◌++◌, map, take, length, true, Option, Bor, ap, ap₂, arith, inl, inr, refl, subst, sym}
+use Rattle.std.proofs.Common.{◌≡◌, ◌⊎◌, ◌+◌, ◌-◌, ◌<◌, ◌≤◌, ◌∙◌, ℕ, zero, suc, List, [], ◌∷◌, ◌++◌, map, take, length, true, Option, Bor, ap, ap₂, arith, inl, inr, refl, subst, sym}
 use Rattle.std.specs.Prelude.{slice_index_or}
 use Rattle.std.proofs.lemmas.Bool.{false≢true}
-use Rattle.std.proofs.lemmas.List.{get_or-map, length-map, map-append, take_more}
+use Rattle.std.proofs.lemmas.List.{get_or-map, length-map, map-append, take_all, take_more}
 use Rattle.rj_merge.specs.declared.copies.Copies.{Copies}
 use Rattle.rj_merge.specs.declared.copies.MergeInput.{MergeInput}
 use Rattle.rj_merge.specs.declared.retrying.RetryingReader.{RetryingReader}
 use Rattle.rj_merge.specs.declared.refused.MergeRefused.{MergeRefused}
 use Rattle.rj_merge.specs.declared.refused.MergeRefused.TheVariants as refused
 use Rattle.rj_merge.specs.Inputs.{TellTexts, copies_of, is_input}
-use Rattle.rj_merge.specs.Named.{AreOpened, IsShut, OpenTexts}
+use Rattle.rj_merge.specs.Named.{AreOpened, IsOpenFault, IsShut, OpenTexts, OpensNothing}
 use Rattle.rj_merge.specs.Retrying.{reader_of}
 use Rattle.rj_merge.specs.Sources.{TellsAmong, is_outside}
 use Rattle.rj_merge.proofs.ToldFacts.{input_within}
@@ -47,6 +47,40 @@ module _ {R : Type 0} where
   opened_tell opens known (n ∷ names) (text ∷ texts) [] all told = absurd all
   opened_tell opens known (n ∷ names) (text ∷ texts) (j ∷ inputs) all told =
       ap₂ (λ (t : Option (List ℕ)) (ts : List (Option (List ℕ))). t ∷ ts) (told.0 (reader_of j.reader) all.0) (opened_tell opens known names texts inputs all.1 told.1)
+
+  -- a name that opens nothing is behind those that were opened
+  pub opened_before : (opens : List ℕ → R → Type 0) (names : List (List ℕ)) (count number : ℕ) (inputs : List (MergeInput (RetryingReader R)))
+      → AreOpened opens (take count names) inputs → OpensNothing opens names number → count < number
+  opened_before opens [] count number inputs all none = absurd (let low = none.first in let high = none.last in omega (arith, low, high))
+  opened_before opens (name ∷ names) zero number inputs all none = let low = none.first in omega (arith, low)
+  opened_before opens (name ∷ names) (suc count) number [] all none = absurd all
+  opened_before opens (name ∷ names) (suc count) number (i ∷ inputs) all none = by_number (λ k w. opened_before opens names count k inputs all.1 w) number none
+    where
+      by_number : ((k : ℕ) → OpensNothing opens names k → count < k) → (k : ℕ) → OpensNothing opens (name ∷ names) k → suc count < k
+      by_number later zero w = absurd (let low = w.first in omega (arith, low))
+      by_number later (suc zero) w = absurd (w.none (reader_of i.reader) all.0)
+      by_number later (suc (suc k)) w =
+          let above : suc (suc k) - 1 ≡ suc k = omega arith in
+          let below : suc k - 1 ≡ k = omega arith in
+          let behind = later (suc k) (record {
+            first = omega arith;
+            last = (let high = w.last in omega (arith, high));
+            none = λ r opened. w.none r (subst (λ n. opens (slice_index_or (name ∷ names) n []) r) (sym above) (subst (λ n. opens (slice_index_or names n []) r) below opened));
+          }) in
+          omega (arith, behind)
+
+  pub opens_each : (opens : List ℕ → R → Type 0) (names : List (List ℕ)) (inputs : List (MergeInput (RetryingReader R))) (number : ℕ)
+      → AreOpened opens names inputs → OpensNothing opens names number → ⊥
+  opens_each opens names inputs number all none =
+      let behind = opened_before opens names (length names) number inputs (subst (λ l. AreOpened opens l inputs) (sym (take_all (length names) names (omega arith))) all) none in
+      let high = none.last in
+      omega (arith, behind, high)
+
+-- an error of opening a name is one of each later name that opens nothing
+pub unopened_here : (shut : List ℕ → Type 0) (names : List (List ℕ)) (number : ℕ) (e : MergeRefused) → (e ≡ refused.Memory) ⊎ (e ≡ refused.ReadDevice number) → ((i : ℕ) → e ≡ refused.ReadDevice i → IsShut shut names i)
+    → (last : ℕ) → number ≤ last → IsOpenFault shut names last e
+unopened_here shut names number e (inl memory) is last low = subst (IsOpenFault shut names last) (sym memory) tt
+unopened_here shut names number e (inr device) is last low = subst (IsOpenFault shut names last) (sym device) (low, is number device)
 
 -- a text that can't be opened is told by the number of its name
 pub shut_here : (shut : List ℕ → Type 0) (names : List (Bor (List ℕ))) (at number : ℕ) (d : Bor (List ℕ)) (e : MergeRefused) → at < length names → number ≡ at → shut (slice_index_or names at d).now

@@ -10,7 +10,7 @@ use lib.Pointwise.{pointwise_decides}
 use Rattle.std.proofs.lemmas.List.Concat.{flat_map-append}
 use Rattle.std.proofs.lemmas.List.Elements.{All-cons, All-nil, All-push, Contains-append_left, Contains-append_right}
 use Rattle.rj_csv_io.specs.Cuts.{records_in}
-use Rattle.rj_strict.specs.Grammar.{comma}
+use Rattle.rj_csv_io.specs.Grammar.{comma}
 use Rattle.rj_merge.specs.declared.columns.Columns.{Columns}
 use Rattle.rj_merge.specs.declared.copies.Copies.{Copies}
 use Rattle.rj_merge.specs.declared.copies.MergeInput.{MergeInput}

@@ -14,7 +14,7 @@ use Rattle.std.proofs.lemmas.List.Folds.{flat_map-map}
 use Rattle.std.proofs.lemmas.List.Sorted.{IsPermutation-append_comm, IsPermutation-append_left, IsPermutation-append_right, IsPermutation-refl, IsPermutation-sym, IsPermutation-trans}
 use Rattle.rj_csv_io.specs.Cuts.{records_in}
 use Rattle.rj_csv_io.specs.Shown.{rows_text}
-use Rattle.rj_strict.specs.Grammar.{comma}
+use Rattle.rj_csv_io.specs.Grammar.{comma}
 use Rattle.rj_merge.specs.declared.columns.Columns.{Columns}
 use Rattle.rj_merge.specs.declared.copies.Copies.{Copies}
 use Rattle.rj_merge.specs.declared.options.MergeOptions.{MergeOptions}
@@ -110,7 +110,7 @@ then_rises : (last : Option Place) (found : Result Row MergeRefused) (more : Row
 then_rises last (Err e) more above rest = tt
 then_rises last (Ok p) more above rest = (above, rest p)
 
-rows_rise : (how : MergeOptions) (columns : Columns) (input before : ℕ) (last : Option Place) (records : List (List (List ℕ))) → RisesFrom last (read_rows how columns input before last records).rows
+pub rows_rise : (how : MergeOptions) (columns : Columns) (input before : ℕ) (last : Option Place) (records : List (List (List ℕ))) → RisesFrom last (read_rows how columns input before last records).rows
 unfolding read_rows
 rows_rise how columns input before last [] = tt
 rows_rise how columns input before last (r ∷ records) =

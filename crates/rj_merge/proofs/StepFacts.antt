@@ -52,7 +52,7 @@ module _ {T S : Type 0} (copies : S → Copies) (reading : S → Reading T) (inp
   abbrev whole : Stage T
   whole = record { passed = None; rows = rows_of_inputs copies reading inputs; faults = faults_of_inputs reading inputs }
 
-  gave_passes : (now : Stage T) → GaveSoFar copies reading inputs rows now → Passes None now.passed whole.rows now.rows rows
+  pub gave_passes : (now : Stage T) → GaveSoFar copies reading inputs rows now → Passes None now.passed whole.rows now.rows rows
   gave_passes now g =
       pass_more None g.opened.passed now.passed whole.rows g.opened.rows now.rows [] rows (pass_start g.opened.passed whole.rows g.opened.rows [] g.passed refl g.all)
       (steps_pass g.opened rows now g.steps)

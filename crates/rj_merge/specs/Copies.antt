@@ -1,12 +1,12 @@
 -- In how many inputs of a merge a row has to be to be a row of the whole, and in how many it is.
-use Rattle.std.specs.Prelude.{◌≡◌, ◌<◌, ℕ, List, map, All, Contains}
+use Rattle.std.specs.Prelude.{◌≡◌, ◌<◌, ℕ, List, map, filter, All, Contains, Option}
 use Rattle.std.specs.List.{count_by, flat_map}
 use Rattle.std.specs.Ordering.{is_eq}
 use Rattle.rj_merge.specs.declared.copies.Copies.{Copies}
 use Rattle.rj_merge.specs.declared.place.Place.{Place}
 use Rattle.rj_merge.specs.declared.place.Place.TheVariants.{Pair, LoneAmongPairs, LoneLeft, LoneRight}
 use Rattle.rj_merge.specs.declared.place.Placed.{Placed}
-use Rattle.rj_merge.specs.Places.{place_order}
+use Rattle.rj_merge.specs.Places.{is_up_to, place_order}
 
 -- each row of the whole is in one input
 abbrev pub single : Copies
@@ -40,6 +40,10 @@ module _ {T : Type 0} where
   -- each input has these copies
   abbrev pub AreSingle : List (Copies × List (Placed T)) → Type 0
   AreSingle inputs = All (λ i. i.0 ≡ single) inputs
+
+  -- the rows up to this place, or none if there is no place
+  abbrev pub up_to : Option Place → List (Copied T) → List (Copied T)
+  up_to last all = filter (λ c. is_up_to last c.row.place) all
 
   -- how often a place is among rows
   abbrev pub times : Place → List (Copied T) → ℕ

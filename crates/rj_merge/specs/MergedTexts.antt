@@ -1,5 +1,5 @@
 -- The merge of texts, as a text, and the errors that prevent it.
-use Rattle.std.specs.Prelude.{◌≡◌, false, ℕ, List, [], ◌∷◌, ◌++◌, map, Option, None, Some, Result, Err}
+use Rattle.std.specs.Prelude.{◌≡◌, ◌⊎◌, false, ℕ, List, [], ◌∷◌, ◌++◌, map, Option, None, Some, Result, Err}
 use Rattle.std.specs.List.{zip}
 use Rattle.std.specs.Io.KnownBytes.{Appends}
 use Rattle.std.specs.declared.alloc.Global.{Global}
@@ -15,7 +15,7 @@ use Rattle.rj_merge.specs.declared.place.Placed.{Placed}
 use Rattle.rj_merge.specs.declared.refused.MergeRefused.{MergeRefused}
 use Rattle.rj_merge.specs.declared.refused.MergeTextsRefused.{MergeTextsRefused}
 use Rattle.rj_merge.specs.declared.refused.MergeTextsRefused.TheVariants as texts_refused
-use Rattle.rj_merge.specs.Copies.{copied_rows}
+use Rattle.rj_merge.specs.Copies.{Copied, copied_rows, up_to}
 use Rattle.rj_merge.specs.Headers.{place_columns}
 use Rattle.rj_merge.specs.Inputs.{faults_of_readings, first_header, header_fault, readings}
 use Rattle.rj_merge.specs.Merging.{IsFaultOf}
@@ -67,6 +67,23 @@ pub record GotMerge (how : MergeOptions) (copies : List Copies) (texts : List (L
   pub text : List ℕ
   pub merge : IsMergedText how copies texts text
   pub got : Appends old new text
+
+-- an output got the first bytes of a text and of the records of a merge below it, with this
+-- delimiter: of the merge of the rows up to some place
+pub record GotFirst (d : ℕ) (above : List ℕ) (all : List (Copied (List (List ℕ)))) (old new : Option (List ℕ)) : Type 0 where
+  pub last : Option Place
+  pub rows : List (Placed (List (List ℕ)))
+  pub merge : IsMergeOf (up_to last all) rows
+  pub text : List ℕ
+  pub more : List ℕ
+  pub whole : above ++ records_text d rows ≡ text ++ more
+  pub got : Appends old new text
+
+-- an output is as it was, or it got the first bytes of a merge of texts with these copies: of the
+-- header, if that is above the rows, and of the merge of the rows up to some place
+abbrev pub IsPartlyMerged : MergeOptions → List Copies → List (List ℕ) → Option (List ℕ) → Option (List ℕ) → Type 0
+IsPartlyMerged how copies texts old new = (new ≡ old) ⊎ ((columns : Columns) × (place_columns (first_header texts) ≡ Some columns)
+    × GotFirst how.delimiter (rows_text how.delimiter (head_rows how.from (others columns (first_header texts)))) (copied_rows (lists_of_texts how copies texts)) old new)
 
 -- a call is refused by this error, which isn't one of the machine
 pub record IsRefusedBy {T : Type 0} (result : Result T MergeTextsRefused) (e : MergeRefused) : Type 0 where

@@ -1,6 +1,8 @@
 -- Texts that are opened by their names.
 use Rattle.std.specs.Prelude.{◌≡◌, ◌-◌, ◌≤◌, ℕ, List, [], ◌∷◌, length, slice_index_or, Option, Some}
 use Rattle.rj_merge.specs.declared.copies.MergeInput.{MergeInput}
+use Rattle.rj_merge.specs.declared.refused.MergeRefused.{MergeRefused}
+use Rattle.rj_merge.specs.declared.refused.MergeRefused.TheVariants as refused
 use Rattle.rj_merge.specs.declared.retrying.RetryingReader.{RetryingReader}
 use Rattle.rj_merge.specs.Retrying.{reader_of}
 
@@ -27,3 +29,16 @@ pub record IsShut (shut : List ℕ → Type 0) (names : List (List ℕ)) (number
   pub first : 1 ≤ number
   pub last : number ≤ length names
   pub is : shut (slice_index_or names (number - 1) [])
+
+-- the name of this number, counted from 1, is one that opens nothing
+pub record OpensNothing {R : Type 0} (opens : List ℕ → R → Type 0) (names : List (List ℕ)) (number : ℕ) : Type 0 where
+  pub first : 1 ≤ number
+  pub last : number ≤ length names
+  pub none : (r : R) → opens (slice_index_or names (number - 1) []) r → ⊥
+
+-- the error of a name that can't be opened, which is the one of this number or one before it; or
+-- memory ran out
+abbrev pub IsOpenFault : (List ℕ → Type 0) → List (List ℕ) → ℕ → MergeRefused → Type 0
+IsOpenFault shut names number (refused.ReadDevice i) = (i ≤ number) × IsShut shut names i
+IsOpenFault shut names number refused.Memory = Unit {0}
+IsOpenFault shut names number e = ⊥

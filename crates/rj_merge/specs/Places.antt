@@ -1,5 +1,5 @@
 -- Where a row is in a joined table, and the order of these places.
-use Rattle.std.specs.Prelude.{◌≡◌, ℕ, Option, Some, None, false}
+use Rattle.std.specs.Prelude.{◌≡◌, ℕ, Bool, not, Option, Some, None, false}
 use Rattle.std.specs.Cmp.{IsTotalOrder, nat_cmp_total, on_total, then_total}
 use Rattle.std.specs.Ordering.{is_lt, nat_cmp, on, then_cmp}
 use Rattle.std.specs.declared.cmp.Ordering.{Ordering}
@@ -57,6 +57,11 @@ IsAbove (Some before) place = place_order before place ≡ Less
 abbrev pub IsNotBelow : Option Place → Place → Type 0
 IsNotBelow None place = Unit {0}
 IsNotBelow (Some before) place = is_lt (place_order place before) ≡ false
+
+-- a place isn't above this one, if there is one; if there is none, each place is above it
+abbrev pub is_up_to : Option Place → Place → Bool
+is_up_to None place = false
+is_up_to (Some last) place = not (is_lt (place_order last place))
 
 -- the place of an unmatched left row: after all matches, or among them if each left row is at its
 -- place

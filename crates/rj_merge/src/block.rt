@@ -1,17 +1,19 @@
 //! Records written in a block, which is put on an output whenever it is full.
 
-ghost use Rattle.std.specs.Prelude.{◌≡◌, ◌≢◌, ◌<◌, ◌+◌, ◌-◌, ◌^◌, ◌++◌, [], List, ℕ, Option, Err, IfErr, OnOk};
+ghost use Rattle.std.specs.Prelude.{◌≡◌, ◌≢◌, ◌++◌, [], List, ℕ, Option, Err, IfErr, OnOk};
 ghost use Rattle.std.specs.Io.KnownBytes.{Appends};
 ghost use Rattle.csv.specs.Writing.{row_text};
+ghost use Rattle.rj_csv_io.specs.Devices.{after_failure};
 ghost use Rattle.rj_csv_io.specs.Shown.{writer_of};
 ghost use Rattle.rj_csv_io.specs.Written.{HasWritten};
+ghost use Rattle.rj_merge.specs.declared.refused.MergeRefused.{MergeRefused};
 ghost use Rattle.rj_merge.specs.MergedTexts.{IsTold};
 
 use crate::fields::Fields;
 use crate::refused::{MergeRefused, MergeTextsRefused};
 use csv::{Writer, WriterBuilder};
+use rj_csv_io::strict::Delimiter;
 use rj_csv_io::{Failed, Output};
-use rj_strict::Delimiter;
 use std::alloc::Global;
 use std::mem;
 
@@ -31,19 +33,19 @@ pub(crate) fn empty_block(alloc: Global, delimiter: Delimiter) -> Writer<Vec<u8>
 ///
 /// # Errors
 ///
-/// `WriteDevice` if the output failed; otherwise only `Memory`.
+/// `WriteDevice` if the output failed; otherwise only `Memory`, and nothing is put then.
 pub(crate) fn put_block<O: Output>(
     alloc: Global,
     block: &mut Writer<Vec<u8>>,
     delimiter: Delimiter,
     output: &mut O,
 ) -> Result<(), MergeTextsRefused>
-    requires { O.count output.old < 2 ^ 64 - 1 }
     ensures told { (start : Option (List ℕ)) → (text : List ℕ) → IsTold delimiter start text block.old (O.told output.old)
         → OnOk result (Appends start (O.told output.new) text × HasWritten delimiter block.new [] []) }
-    ensures device { result ≡ Err MergeTextsRefused.WriteDevice → O.count output.new ≡ O.count output.old + 1 }
+    ensures device { result ≡ Err MergeTextsRefused.WriteDevice → O.count output.new ≡ after_failure (O.count output.old) }
     ensures kept { result ≢ Err MergeTextsRefused.WriteDevice → O.count output.new ≡ O.count output.old }
     ensures fault { IfErr result (λ e. e ≢ MergeTextsRefused.WriteDevice → e ≡ MergeTextsRefused.Merge MergeRefused.Memory) }
+    ensures unput { (e : MergeRefused) → result ≡ Err (MergeTextsRefused.Merge e) → output.new ≡ output.old }
 {
     let full = mem::replace(block, empty_block(alloc, delimiter));
     let Ok(text) = full.into_inner() else {
@@ -59,7 +61,7 @@ pub(crate) fn put_block<O: Output>(
 ///
 /// # Errors
 ///
-/// `WriteDevice` if the output failed; otherwise only `Memory`.
+/// `WriteDevice` if the output failed; otherwise only `Memory`, and nothing is put then.
 pub(crate) fn add_row<O: Output>(
     alloc: Global,
     row: &Fields,
@@ -67,12 +69,12 @@ pub(crate) fn add_row<O: Output>(
     delimiter: Delimiter,
     output: &mut O,
 ) -> Result<(), MergeTextsRefused>
-    requires { O.count output.old < 2 ^ 64 - 1 }
     ensures told { (start : Option (List ℕ)) → (text : List ℕ) → IsTold delimiter start text block.old (O.told output.old)
         → OnOk result (IsTold delimiter start (text ++ row_text (writer_of delimiter) row.now) block.new (O.told output.new)) }
-    ensures device { result ≡ Err MergeTextsRefused.WriteDevice → O.count output.new ≡ O.count output.old + 1 }
+    ensures device { result ≡ Err MergeTextsRefused.WriteDevice → O.count output.new ≡ after_failure (O.count output.old) }
     ensures kept { result ≢ Err MergeTextsRefused.WriteDevice → O.count output.new ≡ O.count output.old }
     ensures fault { IfErr result (λ e. e ≢ MergeTextsRefused.WriteDevice → e ≡ MergeTextsRefused.Merge MergeRefused.Memory) }
+    ensures unput { (e : MergeRefused) → result ≡ Err (MergeTextsRefused.Merge e) → output.new ≡ output.old }
 {
     if row.write(block).is_err() {
         return Err(MergeTextsRefused::Merge(MergeRefused::Memory));

@@ -1,14 +1,17 @@
 //! Laws: each of these functions does nothing; its contract is a theorem about all merges.
 
-ghost use Rattle.std.specs.Prelude.{◌≡◌, ◌∷◌, List, [], Option, Some, map};
+ghost use Rattle.std.specs.Prelude.{◌≡◌, ◌∷◌, ℕ, List, [], None, Option, Some, map};
 ghost use Rattle.std.specs.List.{flat_map};
 ghost use Rattle.rj_merge.specs.declared.copies.Copies.{Copies};
+ghost use Rattle.rj_merge.specs.declared.options.MergeOptions.{MergeOptions};
 ghost use Rattle.rj_merge.specs.declared.place.Place.{Place};
 ghost use Rattle.rj_merge.specs.declared.place.Placed.{Placed};
 ghost use Rattle.rj_merge.specs.declared.refused.MergeRefused.{MergeRefused};
 ghost use Rattle.rj_merge.specs.Copies.{AreAlike, AreSingle, StandsTooOften, copied_rows};
+ghost use Rattle.rj_merge.specs.MergedTexts.{AreRanges, HaveNoFault, IsMergedText};
 ghost use Rattle.rj_merge.specs.Merging.{IsFaultOf, faults_of_inputs, lists_of_inputs};
 ghost use Rattle.rj_merge.specs.Places.{IsAbove};
+ghost use Rattle.rj_merge.specs.Ranges.{AreCuts, between};
 ghost use Rattle.rj_merge.specs.Steps.{GaveAll, GaveSoFar, Stage};
 ghost use Rattle.rj_merge.specs.Wholes.{HasTwice, IsMerge, IsMergeOf, RisesFrom};
 
@@ -46,4 +49,13 @@ pub fn single_copies<T>()
         → IsMerge (map (λ i. i.1) inputs) rows → IsMergeOf (copied_rows inputs) rows }
     ensures twice { (inputs : List (Copies × List (Placed T))) (place : Place) → AreSingle inputs
         → StandsTooOften (copied_rows inputs) place → HasTwice (flat_map (λ i. i.1) inputs) place }
+{}
+
+/// The texts of the merges of ranges, one after another, are the text of the whole merge, for all
+/// cuts that rise. If the last range has no error, the whole has none.
+pub fn ranges_are_whole()
+    ensures text { (how : MergeOptions) (copies : List Copies) (texts : List (List ℕ)) (cuts : List Place) (parts : List (List ℕ)) → AreCuts None cuts
+        → AreRanges how copies texts None cuts parts → IsMergedText (between how None None) copies texts (flat_map (λ part. part) parts) }
+    ensures faults { (how : MergeOptions) (texts : List (List ℕ)) (from : Option Place)
+        → HaveNoFault (between how from None) texts → HaveNoFault (between how None None) texts }
 {}

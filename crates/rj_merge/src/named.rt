@@ -1,10 +1,12 @@
 //! Texts that are opened by their names, and merged.
 
-ghost use Rattle.std.specs.Prelude.{◌≡◌, ◌≢◌, ◌<◌, ◌+◌, ◌-◌, ◌^◌, ◌⊎◌, true, ℕ, List, Err, IfOk, IfErr, OnOk, OnErr, length, map, vec_len};
+ghost use Rattle.std.specs.Prelude.{◌≡◌, ◌≢◌, ◌<◌, ◌^◌, ◌⊎◌, true, ℕ, List, Err, IfOk, IfErr, OnOk, OnErr, length, map, vec_len};
+ghost use Rattle.std.specs.IoError.{error_kind};
+ghost use Rattle.rj_csv_io.specs.Devices.{after_failure};
 ghost use Rattle.rj_merge.specs.declared.refused.MergeRefused.{MergeRefused};
 ghost use Rattle.rj_merge.specs.Inputs.{copies_of, is_input};
-ghost use Rattle.rj_merge.specs.MergedTexts.{GotMerge, HaveNoFault, HeedsHeaders, IsFaultOfTexts, IsRefusedBy, IsUntouched};
-ghost use Rattle.rj_merge.specs.Named.{AreOpened, ForNamed, IsShut};
+ghost use Rattle.rj_merge.specs.MergedTexts.{GotMerge, HaveNoFault, HeedsHeaders, IsFaultOfTexts, IsPartlyMerged, IsRefusedBy, IsUntouched};
+ghost use Rattle.rj_merge.specs.Named.{AreOpened, ForNamed, IsOpenFault, IsShut, OpensNothing};
 ghost use Rattle.rj_merge.specs.Sources.{TellsAmong, is_outside};
 
 use crate::copies::{Copies, MergeInput};
@@ -39,7 +41,9 @@ pub trait Opener {
 
 // Why an input can't be opened.
 fn fault_of_open(input: u32, error: &io::Error) -> MergeRefused
-    ensures { (result ≡ MergeRefused.Memory) ⊎ (result ≡ MergeRefused.ReadDevice input) }
+    ensures memory { error_kind error.now ≡ ErrorKind.OutOfMemory → result ≡ MergeRefused.Memory }
+    ensures device { error_kind error.now ≢ ErrorKind.OutOfMemory → result ≡ MergeRefused.ReadDevice input }
+    ensures either { (result ≡ MergeRefused.Memory) ⊎ (result ≡ MergeRefused.ReadDevice input) }
 {
     if error.kind() == ErrorKind::OutOfMemory {
         MergeRefused::Memory
@@ -62,6 +66,8 @@ fn open_named<P: Opener>(
     ensures count { IfOk result (λ v. vec_len v ≡ length names.now) }
     ensures outside { IfErr result (λ e. is_outside e ≡ true) }
     ensures shut { IfErr result (λ e. (i : ℕ) → e ≡ MergeRefused.ReadDevice i → IsShut (P.shut opener.now) (map (λ n. n.now) names.now) i) }
+    ensures unopened { (i : ℕ) → OpensNothing (P.opens opener.now) (map (λ n. n.now) names.now) i
+        → (e : MergeRefused) × (result ≡ Err e) × IsOpenFault (P.shut opener.now) (map (λ n. n.now) names.now) i e }
 {
     let mut inputs = Vec::new(alloc);
     let mut number = 0;
@@ -87,7 +93,8 @@ fn open_named<P: Opener>(
 ///
 /// # Errors
 ///
-/// Those of [`merge_texts`]. `ReadDevice` also for a text that can't be opened, the first of them.
+/// Those of [`merge_texts`]. `ReadDevice` also for a text that can't be opened, the first of them;
+/// nothing is put then.
 pub fn merge_named<P: Opener, O: Output>(
     alloc: Global,
     opener: &P,
@@ -99,7 +106,6 @@ pub fn merge_named<P: Opener, O: Output>(
     requires some { 0 < length names.now }
     requires count { length names.now < 2 ^ 32 }
     requires copies { length copies.now ≡ length names.now }
-    requires failures { O.count output.old < 2 ^ 64 - 1 }
     ensures merge { OnOk result (ForNamed (P.opens opener.now) P.Reader.remaining (map (λ n. n.now) names.now)
         (λ texts. GotMerge how.now copies.now texts (O.told output.old) (O.told output.new))) }
     ensures faults { OnOk result (ForNamed (P.opens opener.now) P.Reader.remaining (map (λ n. n.now) names.now) (HaveNoFault how.now)) }
@@ -107,8 +113,12 @@ pub fn merge_named<P: Opener, O: Output>(
         → ForNamed (P.opens opener.now) P.Reader.remaining (map (λ n. n.now) names.now) (λ texts. IsFaultOfTexts how.now copies.now texts e) }
     ensures first { ForNamed (P.opens opener.now) P.Reader.remaining (map (λ n. n.now) names.now) (HeedsHeaders result) }
     ensures untouched { ForNamed (P.opens opener.now) P.Reader.remaining (map (λ n. n.now) names.now) (IsUntouched output.old output.new) }
+    ensures partly { (e : MergeRefused) → result ≡ Err (MergeTextsRefused.Merge e)
+        → ForNamed (P.opens opener.now) P.Reader.remaining (map (λ n. n.now) names.now) (λ texts. IsPartlyMerged how.now copies.now texts (O.told output.old) (O.told output.new)) }
     ensures input { (e : MergeRefused) → result ≡ Err (MergeTextsRefused.Merge e) → TellsAmong (is_input (length names.now)) e }
-    ensures device { result ≡ Err MergeTextsRefused.WriteDevice → O.count output.new ≡ O.count output.old + 1 }
+    ensures unopened { (i : ℕ) → OpensNothing (P.opens opener.now) (map (λ n. n.now) names.now) i
+        → (output.new ≡ output.old) × ((e : MergeRefused) × (result ≡ Err (MergeTextsRefused.Merge e)) × IsOpenFault (P.shut opener.now) (map (λ n. n.now) names.now) i e) }
+    ensures device { result ≡ Err MergeTextsRefused.WriteDevice → O.count output.new ≡ after_failure (O.count output.old) }
     ensures kept { result ≢ Err MergeTextsRefused.WriteDevice → O.count output.new ≡ O.count output.old }
 {
     let inputs = match open_named(alloc, opener, names, copies) {

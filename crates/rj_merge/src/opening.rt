@@ -4,7 +4,7 @@ ghost use Rattle.std.specs.Prelude.{◌≡◌, ◌<◌, ◌^◌, ◌∷◌, [], 
 ghost use Rattle.csv.specs.Records.{fields_of};
 ghost use Rattle.rj_csv_io.specs.Cuts.{records_in};
 ghost use Rattle.rj_csv_io.specs.Remaining.{IsBetween, records_remaining};
-ghost use Rattle.rj_strict.specs.Grammar.{comma};
+ghost use Rattle.rj_csv_io.specs.Grammar.{comma};
 ghost use Rattle.rj_merge.specs.Headers.{place_columns};
 ghost use Rattle.rj_merge.specs.Inputs.{ForTexts, copies_of, faults_of_readings, first_header, first_record, header_fault, header_fault_of, input_reading, input_tells, is_input, own_copies, own_number, reading_of, readings};
 ghost use Rattle.rj_merge.specs.Sources.{TellsAmong, TellsOf, is_outside};

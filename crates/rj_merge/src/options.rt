@@ -4,8 +4,8 @@ ghost use Rattle.std.specs.Prelude.{◌≡◌};
 ghost use Rattle.rj_merge.specs.Ranges.{is_before, is_from};
 
 use crate::place::Place;
+use rj_csv_io::strict::Delimiter;
 use rj_settings::RowOrder;
-use rj_strict::Delimiter;
 
 /// How texts of placed rows are merged.
 #[derive(Debug, Drop)]

@@ -1,16 +1,17 @@
 //! Texts of placed rows merged into one text.
 
-ghost use Rattle.std.specs.Prelude.{◌≡◌, ◌≢◌, ◌<◌, ◌+◌, ◌-◌, ◌^◌, ◌++◌, [], true, Bool, List, ℕ, Err, All, IfOk, OnOk, map, vec_len};
+ghost use Rattle.std.specs.Prelude.{◌≡◌, ◌≢◌, ◌<◌, ◌^◌, ◌++◌, [], true, Bool, List, ℕ, Err, All, IfOk, OnOk, map, vec_len};
 ghost use Rattle.std.specs.Box.{box_value};
 ghost use Rattle.std.specs.Io.KnownBytes.{Appends};
 ghost use Rattle.csv.specs.Records.{fields_of};
+ghost use Rattle.rj_csv_io.specs.Devices.{after_failure};
 ghost use Rattle.rj_csv_io.specs.Shown.{rows_text};
 ghost use Rattle.rj_csv_io.specs.Written.{HasWritten};
 ghost use Rattle.rj_merge.specs.declared.place.Placed.{Placed};
 ghost use Rattle.rj_merge.specs.declared.refused.MergeRefused.{MergeRefused};
 ghost use Rattle.rj_merge.specs.Copies.{copied_rows};
 ghost use Rattle.rj_merge.specs.Inputs.{ForTexts, boxed_copies, boxed_number, boxed_reading, boxed_tells, copies_of, is_input};
-ghost use Rattle.rj_merge.specs.MergedTexts.{GotMerge, HaveNoFault, HeedsHeaders, IsFaultOfTexts, IsRefusedBy, IsUntouched, head_rows, records_text};
+ghost use Rattle.rj_merge.specs.MergedTexts.{GotFirst, GotMerge, HaveNoFault, HeedsHeaders, IsFaultOfTexts, IsPartlyMerged, IsRefusedBy, IsUntouched, head_rows, records_text};
 ghost use Rattle.rj_merge.specs.Merging.{IsFaultOf, faults_of_inputs, lists_of_inputs};
 ghost use Rattle.rj_merge.specs.Sources.{TellsAmong};
 ghost use Rattle.rj_merge.specs.Texts.{others};
@@ -27,7 +28,7 @@ use crate::options::MergeOptions;
 use crate::refused::{MergeRefused, MergeTextsRefused};
 use csv::Writer;
 use rj_csv_io::Output;
-use rj_strict::Delimiter;
+use rj_csv_io::strict::Delimiter;
 use std::alloc::{AllocError, Global};
 use std::io::Read;
 
@@ -59,7 +60,6 @@ fn put_rows<'n, R: Read + Drop, O: Output>(
     delimiter: Delimiter,
     output: &mut O,
 ) -> Result<(), MergeTextsRefused>
-    requires { O.count output.old < 2 ^ 64 - 1 }
     ensures merge { OnOk result ((text : List ℕ) → HasWritten delimiter block text [] → All (boxed_tells R.remaining) sources.entry.items
         → (rows : List (Placed (List (List ℕ)))) × IsMergeOf (copied_rows (lists_of_inputs boxed_copies (boxed_reading R.remaining) sources.entry.items)) rows
         × Appends (O.told output.old) (O.told output.new) (text ++ records_text delimiter rows)) }
@@ -67,9 +67,11 @@ fn put_rows<'n, R: Read + Drop, O: Output>(
     ensures fault { (e : MergeRefused) → IsRefusedBy result e → All (boxed_tells R.remaining) sources.entry.items
         → IsFaultOf (copied_rows (lists_of_inputs boxed_copies (boxed_reading R.remaining) sources.entry.items))
         (faults_of_inputs (boxed_reading R.remaining) sources.entry.items) e }
+    ensures partly { (e : MergeRefused) → result ≡ Err (MergeTextsRefused.Merge e) → (text : List ℕ) → HasWritten delimiter block text [] → All (boxed_tells R.remaining) sources.entry.items
+        → GotFirst delimiter text (copied_rows (lists_of_inputs boxed_copies (boxed_reading R.remaining) sources.entry.items)) (O.told output.old) (O.told output.new) }
     ensures input { (e : MergeRefused) → result ≡ Err (MergeTextsRefused.Merge e) → (numbers : ℕ → Bool)
         → All (λ b. numbers (boxed_number b) ≡ true) sources.entry.items → TellsAmong numbers e }
-    ensures device { result ≡ Err MergeTextsRefused.WriteDevice → O.count output.new ≡ O.count output.old + 1 }
+    ensures device { result ≡ Err MergeTextsRefused.WriteDevice → O.count output.new ≡ after_failure (O.count output.old) }
     ensures kept { result ≢ Err MergeTextsRefused.WriteDevice → O.count output.new ≡ O.count output.old }
 {
     let mut block = block;
@@ -128,7 +130,8 @@ fn begin_block(
 /// # Errors
 ///
 /// `Merge` with the first error of a header, and nothing is put then; or else with an error of a
-/// text or `RepeatedPlace`; `Memory` and `ReadDevice` in it come only from the machine.
+/// text or `RepeatedPlace`; `Memory` and `ReadDevice` in it come only from the machine. What was put
+/// by then are the first bytes of the header and of the merge of all rows up to some place.
 /// `WriteDevice` if the output failed. How much was put is unknown then.
 pub fn merge_texts<R: Read + Drop, O: Output>(
     alloc: Global,
@@ -138,7 +141,6 @@ pub fn merge_texts<R: Read + Drop, O: Output>(
 ) -> Result<(), MergeTextsRefused>
     requires some { 0 < vec_len inputs }
     requires count { vec_len inputs < 2 ^ 32 }
-    requires failures { O.count output.old < 2 ^ 64 - 1 }
     ensures merge { OnOk result (ForTexts R.remaining inputs.items
         (λ texts. GotMerge how.now (copies_of inputs.items) texts (O.told output.old) (O.told output.new))) }
     ensures faults { OnOk result (ForTexts R.remaining inputs.items (HaveNoFault how.now)) }
@@ -146,8 +148,10 @@ pub fn merge_texts<R: Read + Drop, O: Output>(
         → ForTexts R.remaining inputs.items (λ texts. IsFaultOfTexts how.now (copies_of inputs.items) texts e) }
     ensures first { ForTexts R.remaining inputs.items (HeedsHeaders result) }
     ensures untouched { ForTexts R.remaining inputs.items (IsUntouched output.old output.new) }
+    ensures partly { (e : MergeRefused) → result ≡ Err (MergeTextsRefused.Merge e)
+        → ForTexts R.remaining inputs.items (λ texts. IsPartlyMerged how.now (copies_of inputs.items) texts (O.told output.old) (O.told output.new)) }
     ensures input { (e : MergeRefused) → result ≡ Err (MergeTextsRefused.Merge e) → TellsAmong (is_input (vec_len inputs)) e }
-    ensures device { result ≡ Err MergeTextsRefused.WriteDevice → O.count output.new ≡ O.count output.old + 1 }
+    ensures device { result ≡ Err MergeTextsRefused.WriteDevice → O.count output.new ≡ after_failure (O.count output.old) }
     ensures kept { result ≢ Err MergeTextsRefused.WriteDevice → O.count output.new ≡ O.count output.old }
 {
     let Opened { header, sources } = match open_all(alloc, inputs, how) {

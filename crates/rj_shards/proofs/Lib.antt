@@ -7,6 +7,7 @@ pub mod Extended
 pub mod Found
 pub mod JoinedPieces
 pub mod KeptPairs
+pub mod LawFacts
 pub mod LeftOrder
 pub mod LoneCounts
 pub mod LoneRows
@@ -23,3 +24,19 @@ pub mod ShardPairs
 pub mod ShardRows
 pub mod Together
 pub mod Whole
+pub mod PlacedFacts
+pub mod GroupFacts
+pub mod PutFacts
+pub mod ReadingFacts
+pub mod DivisionFacts
+pub mod LenientFacts
+pub mod UnderwayFacts
+pub mod HeaderFacts
+pub mod ShortFacts
+pub mod TakenFacts
+pub mod RangeFacts
+pub mod BlockFacts
+pub mod BrokenFacts
+pub mod StrictFacts
+pub mod NullFacts
+pub mod FirstFacts

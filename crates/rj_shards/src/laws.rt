@@ -26,9 +26,6 @@ ghost use Rattle.rj_shards.specs.Pieces.{AreCutShards, ArePieces, AreRuns};
 ghost use Rattle.rj_shards.specs.Renumbered.{Rises, all_renumbered, inputs_renumbered};
 ghost use Rattle.rj_shards.specs.Rows.{AreShards, placed, placed_rows};
 
-use rj_engine::left_order;
-use rj_merge::{one_merge, single_copies};
-
 /// Each row of a table is in one shard, also a row with a NULL in its key.
 pub fn rows_stand_once()
     ensures { (value : List Content → ℕ) (count : ℕ) (table : TableValue) (columns : List ℕ) → 0 < count
@@ -67,9 +64,7 @@ pub fn pieces_join()
 pub fn kept_rows_meet()
     ensures { (value : List Content → ℕ) → IsLawful value → (count : ℕ) (join : BoundJoin) (l r : TableValue)
         → All (λ p. left_shard value count join l p.0 ≡ right_shard value count join r p.1) (kept_pairs join l r) }
-{
-    shard_is_part();
-}
+{}
 
 /// The rows of the joined table of two tables are the merge of the rows that its shards give. Each
 /// shard is joined whole or in pieces, as two tables of their own. The merge takes the rows that
@@ -83,11 +78,7 @@ pub fn cut_shards_merge_to_whole<T>()
         → AreCutShards order text join l r inputs → IsMergeOf (copied_rows inputs) (placed_rows order text join l r) }
     ensures only { (order : RowOrder) (text : List Content → T) (join : BoundJoin) (l r : TableValue) (inputs : List (Copies × List (Placed T)))
         → AreCutShards order text join l r inputs → (rows : List (Placed T)) → IsMergeOf (copied_rows inputs) rows → rows ≡ placed_rows order text join l r }
-{
-    shards_merge();
-    left_order();
-    one_merge::<T>();
-}
+{}
 
 /// The same if the rows of both tables have other numbers than 0, 1, 2 and so on, as long as the
 /// numbers rise, as the byte offsets of the rows in a file do. The merge of the shards by these
@@ -96,28 +87,20 @@ pub fn renumbered_cut_shards_merge_to_whole<T>()
     ensures { (order : RowOrder) (text : List Content → T) (join : BoundJoin) (l r : TableValue) (inputs : List (Copies × List (Placed T)))
         → AreCutShards order text join l r inputs → (left right : ℕ → ℕ) → Rises left → Rises right → (rows : List (Placed T))
         → IsMergeOf (copied_rows (inputs_renumbered left right inputs)) rows → rows ≡ all_renumbered left right (placed_rows order text join l r) }
-{
-    cut_shards_merge_to_whole::<T>();
-    left_order();
-    one_merge::<T>();
-}
+{}
 
 /// The rows that a piece gives rise: each is above the one before it. So the piece is an input of a
 /// merge as it is.
 pub fn pieces_rise<T>()
     ensures { (order : RowOrder) (text : List Content → T) (join : BoundJoin) (l r : TableValue) (inputs : List (Copies × List (Placed T)))
         → AreCutShards order text join l r inputs → All (λ i. RisesFrom None i.1) inputs }
-{
-    left_order();
-}
+{}
 
 /// No row of all pieces occurs more often than it has to.
 pub fn no_place_too_often<T>()
     ensures { (order : RowOrder) (text : List Content → T) (join : BoundJoin) (l r : TableValue) (inputs : List (Copies × List (Placed T)))
         → AreCutShards order text join l r inputs → (place : Place) → StandsTooOften (copied_rows inputs) place → ⊥ }
-{
-    cut_shards_merge_to_whole::<T>();
-}
+{}
 
 /// Shards that are joined whole are cut shards, each in one piece, whose rows are in no other one.
 pub fn whole_shards_are_cut<T>()
@@ -134,11 +117,7 @@ pub fn shards_merge_to_whole<T>()
         → AreShards order text join l r lists → IsMerge lists (placed_rows order text join l r) }
     ensures only { (order : RowOrder) (text : List Content → T) (join : BoundJoin) (l r : TableValue) (lists : List (List (Placed T)))
         → AreShards order text join l r lists → (rows : List (Placed T)) → IsMerge lists rows → rows ≡ placed_rows order text join l r }
-{
-    whole_shards_are_cut::<T>();
-    cut_shards_merge_to_whole::<T>();
-    single_copies::<T>();
-}
+{}
 
 /// The same if the rows of both tables have other numbers than 0, 1, 2 and so on, as long as the
 /// numbers rise, as the byte offsets of the rows in a file do. The merge of the shards by these
@@ -147,29 +126,20 @@ pub fn renumbered_shards_merge_to_whole<T>()
     ensures { (order : RowOrder) (text : List Content → T) (join : BoundJoin) (l r : TableValue) (lists : List (List (Placed T)))
         → AreShards order text join l r lists → (left right : ℕ → ℕ) → Rises left → Rises right → (rows : List (Placed T))
         → IsMerge (map (all_renumbered left right) lists) rows → rows ≡ all_renumbered left right (placed_rows order text join l r) }
-{
-    whole_shards_are_cut::<T>();
-    renumbered_cut_shards_merge_to_whole::<T>();
-    single_copies::<T>();
-}
+{}
 
 /// The rows that a shard gives rise: each is above the one before it. So the shard is an input of a
 /// merge as it is.
 pub fn shards_rise<T>()
     ensures { (order : RowOrder) (text : List Content → T) (join : BoundJoin) (l r : TableValue) (lists : List (List (Placed T)))
         → AreShards order text join l r lists → All (RisesFrom None) lists }
-{
-    whole_shards_are_cut::<T>();
-    pieces_rise::<T>();
-}
+{}
 
 /// No two rows of all shards have one place.
 pub fn no_place_twice<T>()
     ensures { (order : RowOrder) (text : List Content → T) (join : BoundJoin) (l r : TableValue) (lists : List (List (Placed T)))
         → AreShards order text join l r lists → (place : Place) → HasTwice (flat_map (λ l. l) lists) place → ⊥ }
-{
-    shards_merge_to_whole::<T>();
-}
+{}
 
 /// The rows of a joined table, of a shard or of the whole, without their places: what is written of
 /// the rows of cells that a `View` of it shows, in their order. That is all of it in its own order,

@@ -2,8 +2,11 @@
 //! ICDE 2013). The rows of two tables are divided by the hash of their keys. Each shard is joined
 //! alone, whole or in pieces. The merge of what the shards give is the joined table of SQL-92
 //! (7.5).
+//!
+//! [`division`] divides the rows of a text among parts.
 #![tactic(auto)]
 
+pub mod division;
 mod laws;
 mod route;
 mod shards;

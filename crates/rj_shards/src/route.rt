@@ -3,9 +3,9 @@
 ghost use Rattle.std.specs.Prelude.{◌<◌, All, length};
 ghost use Rattle.rj_shards.specs.Routes.{shard_of_cells};
 
+use crate::division::Route;
 use crate::shards::Shards;
 use rj_columns::Table;
-use rj_divide::Route;
 use rj_radix::{KeyHash, KeyRef};
 
 /// Leads each row of a table to its shard. With the key columns of a join (the left ones for the

@@ -1,6 +1,6 @@
 //! Worked examples: rows that are cut into parcels, and a stripe that was interrupted.
 
-use rj_ledger::{Answer, Body, Parcel, Reason, cut, replay};
+use rj_exchange::ledger::{Answer, Body, Parcel, Reason, cut, replay};
 use std::test::Fail;
 
 // Rows, and the blocks of at most four of them into which they are cut.

@@ -5,9 +5,9 @@ ghost use Rattle.rj_columns.specs.Compare.{is_null};
 ghost use Rattle.rj_columns.specs.Contents.{nothing};
 
 use rj_columns::{ColumnType, Table};
+use rj_csv_io::strict::Delimiter;
 use rj_csv_io::{Failed, Header, Input, Output, is_lawful_null};
-use rj_divide::{DivideRefused, Division, Reading, Route, divide, find_cuts};
-use rj_strict::Delimiter;
+use rj_shards::division::{DivideRefused, Division, Reading, Route, divide, find_cuts};
 use std::alloc::Global;
 
 const TYPES: [ColumnType; 2] = [ColumnType::Int, ColumnType::Text];

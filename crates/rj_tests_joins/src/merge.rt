@@ -1,11 +1,11 @@
 //! Texts of placed rows, merged by readers that signals interrupt, and that fail.
 
 use rj_csv_io::CountedWriter;
+use rj_csv_io::strict::Delimiter;
 use rj_merge::{
     Copies, MergeInput, MergeOptions, MergeRefused, MergeTextsRefused, RetryingReader, RowOrder,
     merge_texts,
 };
-use rj_strict::Delimiter;
 use std::alloc::Global;
 use std::io;
 use std::io::Read;

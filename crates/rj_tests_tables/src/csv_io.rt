@@ -7,12 +7,12 @@ ghost use Rattle.std.specs.Prelude.{IsTrue};
 ghost use Rattle.rj_csv_io.specs.Tables.{is_null_text};
 
 use rj_columns::{ColumnType, NumericType, Table};
+use rj_csv_io::strict::Delimiter;
 use rj_csv_io::{
     CountedWriter, Failed, Header, InputFormat, Output, OutputFormat, ReadRefused, first_ambiguous,
     is_lawful_null, read_table, read_table_in_parts, texts_of_rows, write_more_rows, write_rows,
     write_rows_in_parts, write_texts,
 };
-use rj_strict::Delimiter;
 use std::alloc::{AllocError, Global};
 use std::test::Fail;
 use std::thread::Threads;

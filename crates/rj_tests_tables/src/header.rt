@@ -1,7 +1,7 @@
 //! What stands for a text whose header is completed, and how many names that gives.
 
-use rj_header::complete_header;
-use rj_strict::Delimiter;
+use rj_csv_io::names::complete_header;
+use rj_csv_io::strict::Delimiter;
 use std::alloc::{AllocError, Global};
 use std::test::Fail;
 

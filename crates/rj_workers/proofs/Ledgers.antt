@@ -1,8 +1,9 @@
 -- How ledgers change by offers.
 use Rattle.std.proofs.Common.{◌≡◌, ℕ, zero, suc, List, [], ◌∷◌, ◌++◌, length, refl, sym, ap, ◌∙◌, subst, replicate, map, append-nil, append_assoc}
-use Rattle.rj_ledger.specs.declared.parcel.Parcel.{Parcel}
-use Rattle.rj_ledger.specs.Standing.{nothing_yet}
-use Rattle.rj_ledger.specs.Ledgers.{LedgerValue, IsComplete, IsSameShape, opened, after_offer, after_all}
+use Rattle.rj_exchange.specs.declared.ledger.parcel.Parcel.{Parcel}
+use Rattle.rj_exchange.specs.Standing.{nothing_yet}
+use Rattle.rj_exchange.specs.Ledgers.{LedgerValue, IsComplete, opened, after_all}
+use Rattle.rj_exchange.proofs.EngineFacts.{shape_stays}
 use Rattle.rj_exchange.specs.declared.posted.Posted.{Posted}
 use Rattle.rj_exchange.specs.Boxes.{PostedVec}
 use Rattle.rj_workers.specs.Arrivals.{rows_by_sender, parcel_of, parcels_of}
@@ -10,16 +11,12 @@ use Rattle.rj_workers.specs.Takes.{Builds, IsBuilding}
 use Rattle.rj_workers.specs.declared.take.Building.{Building}
 use Rattle.rj_workers.specs.declared.take.Building.TheVariants.{Waiting, Left, Done}
 
-pub after_append : (v : LedgerValue) (xs ys : List Parcel) → after_all v (xs ++ ys) ≡ after_all (after_all v xs) ys
-after_append v [] ys = refl
-after_append v (x ∷ xs) ys = after_append (after_offer v x) xs ys
-
 length-replicate : {A : Type 0} (n : ℕ) (a : A) → length (replicate n a) ≡ n
 length-replicate zero a = refl
 length-replicate (suc n) a = ap suc (length-replicate n a)
 
-pub senders_opened : ((v : LedgerValue) (xs : List Parcel) → IsSameShape v (after_all v xs)) → (v : LedgerValue) (p n block : ℕ) (xs : List Parcel) → v ≡ after_all (opened p n block) xs → length v.senders ≡ n
-senders_opened stays v p n block xs is = ap (λ (u : LedgerValue). length u.senders) is ∙ (stays (opened p n block) xs).senders ∙ length-replicate n nothing_yet
+pub senders_opened : (v : LedgerValue) (p n block : ℕ) (xs : List Parcel) → v ≡ after_all (opened p n block) xs → length v.senders ≡ n
+senders_opened v p n block xs is = ap (λ (u : LedgerValue). length u.senders) is ∙ (shape_stays (opened p n block) xs).senders ∙ length-replicate n nothing_yet
 
 -- what was built stays built
 module _ {T : Type 0} (builds : Builds T) (p : ℕ) (v w : LedgerValue) (stays : IsComplete v → w ≡ v) where

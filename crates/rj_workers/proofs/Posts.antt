@@ -6,9 +6,9 @@ use Rattle.std.specs.Prelude.{All, Contains}
 use Rattle.std.proofs.lemmas.List.Elements.{Contains-append_left, Contains-push, Contains-push_cases}
 use mathlib.Core.Logic.{dite}
 use native.Mathlib.Decide.{ℕ_discrete}
-use Rattle.rj_ledger.specs.declared.parcel.Body.{Body}
-use Rattle.rj_ledger.specs.declared.parcel.Parcel.{Parcel}
-use Rattle.rj_ledger.specs.Cutting.{bodies, numbered, plan}
+use Rattle.rj_exchange.specs.declared.ledger.parcel.Body.{Body}
+use Rattle.rj_exchange.specs.declared.ledger.parcel.Parcel.{Parcel}
+use Rattle.rj_exchange.specs.Cutting.{bodies, numbered, plan}
 use Rattle.rj_exchange.specs.declared.boxes.Exchange.{Exchange}
 use Rattle.rj_exchange.specs.Boxes.{queue_of}
 use Rattle.rj_workers.proofs.Lists.{row_fits, any_default, along}

@@ -1,6 +1,6 @@
 -- What lists that are posted bit by bit have left.
 use Rattle.std.proofs.Common.{◌≡◌, ℕ, ◌+◌, ◌<◌, ◌≤◌, ◌⊎◌, inl, inr, List, [], ◌∷◌, ◌++◌, length, get_or, set, length-set, sym, refl, ap, ◌∙◌, subst, arith, get_or-set_same, get_or-set_other}
-use Rattle.std.proofs.Common.{length-append, lt_of_not-le, Option, None, Some, slice_get, true, zero, suc}
+use Rattle.std.proofs.Common.{length-append, lt_of_not-le, Option, None, Some, true, zero, suc}
 use Rattle.std.proofs.lemmas.List.{get_or_at, get_or_append_left, nil_from_length}
 use Rattle.std.proofs.lemmas.List.Elements.{All-contains, Contains-append_left, Contains-push, Contains-push_cases}
 use Rattle.std.specs.Prelude.{Contains, option_to_list, is_some, not, vec_len, ◌==◌}
@@ -10,9 +10,10 @@ use Rattle.std.proofs.lemmas.List.Sorted.{Contains-permutation, IsPermutation-sy
 use Rattle.std.proofs.lemmas.Bool.{eqb-true, and_parts}
 use mathlib.Core.Logic.{dite}
 use native.Mathlib.Decide.{ℕ_discrete, dec_le}
-use Rattle.rj_ledger.specs.declared.parcel.Parcel.{Parcel}
-use Rattle.rj_ledger.specs.Cutting.{plan}
-use Rattle.rj_ledger.specs.Lawful.{IsPlanned}
+use Rattle.rj_exchange.specs.declared.ledger.parcel.Parcel.{Parcel}
+use Rattle.rj_exchange.specs.Cutting.{plan}
+use Rattle.rj_exchange.specs.Lawful.{IsPlanned}
+use Rattle.rj_exchange.proofs.EngineFacts.{planned_by_cut}
 use Rattle.rj_exchange.specs.declared.boxes.Exchange.{Exchange}
 use Rattle.rj_exchange.specs.Boxes.{queue_of}
 use Rattle.rj_workers.proofs.Lists.{any_default, along}
@@ -113,10 +114,10 @@ module _ (due : Due) (block sender p : ℕ) (rows : List ℕ) (ss new : List Sen
   in_plan : (x : Parcel) → Contains (to_post s) x → Contains (plan block rows sender p) x
   in_plan x h = Contains-permutation (to_post s) (plan block rows sender p) x (IsPermutation-sym (plan block rows sender p) (to_post s) all) h
 
-  pub planned_push : ((s p i : ℕ) (x : Parcel) → slice_get (plan block (due s p) s p) i ≡ Some x → IsPlanned due block x) → ((x : Parcel) → IsLeft ss x → IsPlanned due block x) → (x : Parcel) → IsLeft new x → IsPlanned due block x
-  planned_push law yet x h = elim (left_cases ss new s is x h) [
+  pub planned_push : ((x : Parcel) → IsLeft ss x → IsPlanned due block x) → (x : Parcel) → IsLeft new x → IsPlanned due block x
+  planned_push yet x h = elim (left_cases ss new s is x h) [
     | inl l ↦ yet x l
-    | inr r ↦ let f = found_at (plan block (due sender p) sender p) x (along _ _ x whole (in_plan x r)) in law sender p f.0 x f.1
+    | inr r ↦ let f = found_at (plan block (due sender p) sender p) x (along _ _ x whole (in_plan x r)) in planned_by_cut due block sender p f.0 x f.1
   ]
 
   pub range_push : (e : Exchange) → p < e.partitions → AreInRange e (IsLeft ss) → AreInRange e (IsLeft new)

@@ -7,13 +7,14 @@ use mathlib.Core.Logic.{dite}
 use mathlib.Core.Option.{some}
 use lib.ListN.{get_elem?}
 use native.Mathlib.Decide.{dec_le}
-use Rattle.rj_ledger.specs.declared.parcel.Parcel.{Parcel}
-use Rattle.rj_ledger.specs.Cutting.{plan}
-use Rattle.rj_ledger.specs.Standing.{Standing, nothing_yet}
+use Rattle.rj_exchange.specs.declared.ledger.parcel.Parcel.{Parcel}
+use Rattle.rj_exchange.specs.Cutting.{plan}
+use Rattle.rj_exchange.specs.Standing.{Standing, nothing_yet}
 use Rattle.std.specs.List.{range_with_len}
-use Rattle.rj_ledger.specs.Ledgers.{LedgerValue, IsSameShape, opened, after_all}
-use Rattle.rj_ledger.specs.Lawful.{IsPlanned}
-use Rattle.rj_ledger.specs.Delivery.{DeliversAll}
+use Rattle.rj_exchange.specs.Ledgers.{LedgerValue, opened, after_all}
+use Rattle.rj_exchange.specs.Lawful.{IsPlanned}
+use Rattle.rj_exchange.proofs.DeliveryFacts.{contained_suffice}
+use Rattle.rj_exchange.proofs.EngineFacts.{shape_stays}
 use Rattle.rj_exchange.specs.declared.boxes.Outbox.{Outbox}
 use Rattle.rj_exchange.specs.declared.boxes.Exchange.{Exchange}
 use Rattle.rj_exchange.specs.declared.halt.Halt.{Halt}
@@ -117,9 +118,7 @@ module _ (due : Due) (stripes block : ℕ) (e : Exchange) (h : Halt) (st : Strip
 -- what scanners that are calm have posted is planned, and is all of the stripes, which they hold each once
 module _ (due : Due) (stripes block : ℕ) (e : Exchange) (h : Halt) (st : Stripes) (rs : List Scanner) (scans : AreScans due block stripes e h st rs)
     (calm : (o : ℕ) (d : Scanner) → o < e.outboxes → KnowsNoHalt (get_or rs o d).seat) (once : EachOnce stripes (map held_by (map (λ (r : Scanner). r.draws) rs)))
-    (suffice : (q : ℕ) (xs : List Parcel) → All (IsPlanned due block) xs → ((s : ℕ) → s < stripes + stripes → All (Contains xs) (plan block (due s q) s q))
-    → DeliversAll due q (stripes + stripes) (after_all (opened q (stripes + stripes) block) xs))
-    (stays : (v : LedgerValue) (xs : List Parcel) → IsSameShape v (after_all v xs)) where
+    (sized : 0 < block) where
   -- each stripe was posted by the scanner that holds it
   posted_by_some : (x : ℕ) → x < stripes → (o : ℕ) × (o < e.outboxes) × ((d : Scanner) → HasPostedStripe due block stripes e x (sent_by_queue (get_or rs o d).outbox))
   posted_by_some x lt =
@@ -153,9 +152,9 @@ module _ (due : Due) (stripes block : ℕ) (e : Exchange) (h : Halt) (st : Strip
 
     pub delivered_of : (v : LedgerValue) → v ≡ after_all (opened p (stripes + stripes) block) xs → IsDelivered due (stripes + stripes) p v
     delivered_of v is =
-        let d = suffice p xs all_planned among in
+        let d = contained_suffice due block p (stripes + stripes) sized xs all_planned among in
         subst (IsDelivered due (stripes + stripes) p) (sym is) (record {
-          partition = (stays (opened p (stripes + stripes) block) xs).partition;
+          partition = (shape_stays (opened p (stripes + stripes) block) xs).partition;
           senders = d.senders;
           complete = d.complete;
           rows = d.rows;

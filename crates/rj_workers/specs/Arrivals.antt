@@ -1,12 +1,12 @@
 -- What takers have taken, and what has arrived in the end.
 use Rattle.std.specs.Prelude.{◌≡◌, ℕ, ◌+◌, ◌*◌, ◌<◌, true, false, List, [], map, length, slice_index_or, Contains}
 use Rattle.std.specs.List.{flat_map, range_with_len}
-use Rattle.rj_ledger.specs.declared.parcel.Parcel.{Parcel}
-use Rattle.rj_ledger.specs.declared.parcel.Reason.TheVariants.{AfterClose}
-use Rattle.rj_ledger.specs.declared.parcel.Answer.TheVariants.{Refused}
-use Rattle.rj_ledger.specs.Reading.{IsRefused}
-use Rattle.rj_ledger.specs.Rules.{is_bad_length}
-use Rattle.rj_ledger.specs.Ledgers.{LedgerValue, IsComplete, opened, standing, answer_to, after_all}
+use Rattle.rj_exchange.specs.declared.ledger.parcel.Parcel.{Parcel}
+use Rattle.rj_exchange.specs.declared.ledger.parcel.Reason.TheVariants.{AfterClose}
+use Rattle.rj_exchange.specs.declared.ledger.parcel.Answer.TheVariants.{Refused}
+use Rattle.rj_exchange.specs.Reading.{IsRefused}
+use Rattle.rj_exchange.specs.Rules.{is_bad_length}
+use Rattle.rj_exchange.specs.Ledgers.{LedgerValue, IsComplete, opened, standing, answer_to, after_all}
 use Rattle.rj_exchange.specs.declared.posted.Posted.{Posted}
 use Rattle.rj_exchange.specs.declared.boxes.Exchange.{Exchange}
 use Rattle.rj_exchange.specs.declared.boxes.Inbox.{Inbox}

@@ -1,8 +1,8 @@
 -- What outboxes have posted. `due s p` are the rows that sender s has for partition p.
 use Rattle.std.specs.Prelude.{◌≡◌, ℕ, ◌+◌, ◌*◌, ◌<◌, Bool, not, is_some, ◌&&◌, ◌==◌, List, [], ◌++◌, ◌⊎◌, option_to_list, vec_len, length, slice_index_or, All, Contains}
-use Rattle.rj_ledger.specs.declared.parcel.Parcel.{Parcel}
-use Rattle.rj_ledger.specs.Cutting.{plan}
-use Rattle.rj_ledger.specs.Lawful.{IsPlanned}
+use Rattle.rj_exchange.specs.declared.ledger.parcel.Parcel.{Parcel}
+use Rattle.rj_exchange.specs.Cutting.{plan}
+use Rattle.rj_exchange.specs.Lawful.{IsPlanned}
 use Rattle.rj_radix.specs.declared.grouping.Scattered.{Scattered}
 use Rattle.rj_radix.specs.Groups.{IsPart}
 use Rattle.rj_exchange.specs.declared.boxes.Exchange.{Exchange}

@@ -1,6 +1,6 @@
 -- What takers know, and what they return. Internal: no public contract uses it.
 use Rattle.std.specs.Prelude.{◌≡◌, ℕ, ◌+◌, Bool, true, false, List, [], ◌⊎◌, Option, Some, IfSome, slice_get, length, map, All}
-use Rattle.rj_ledger.specs.Ledgers.{LedgerValue, IsComplete}
+use Rattle.rj_exchange.specs.Ledgers.{LedgerValue, IsComplete}
 use Rattle.rj_exchange.specs.declared.boxes.Exchange.{Exchange}
 use Rattle.rj_exchange.specs.declared.halt.Halt.{Halt}
 use Rattle.rj_exchange.specs.declared.halt.HaltSeat.{HaltSeat}

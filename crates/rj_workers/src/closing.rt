@@ -14,8 +14,8 @@ use crate::job::Job;
 use crate::scan::Scanner;
 use crate::take::{Building, OwnedPartition, Taker};
 use crate::workers::EndedWorkers;
+use rj_exchange::ledger::Ledger;
 use rj_exchange::{Halt, HaltSeat, Outbox, StripeSeat, Stripes};
-use rj_ledger::{Ledger, contained_suffice, shape_stays};
 use std::alloc::{AllocError, Global};
 use std::sync::Wait;
 
@@ -167,8 +167,6 @@ pub(crate) fn conclude<R: Wait, J: Job>(
     ensures each { let senders = shared.now.settings.workers + shared.now.settings.workers in
         IfOk result (λ v. AreSettled (J.builds shared.now.job.now) (J.due shared.now.job.now) senders shared.now.exchange.now.partitions v.items) }
 {
-    contained_suffice();
-    shape_stays();
     let mut seats = Vec::new(alloc);
     let mut draws = Vec::new(alloc);
     let outboxes = hand_scanned(alloc, back.scanners, &mut seats, &mut draws)?;

@@ -2,7 +2,7 @@
 //! yet is built.
 ghost use Rattle.std.specs.Prelude.{◌≡◌, ◌<◌, ◌≤◌, ◌+◌, ◌++◌, ℕ, All, IfOk, map, length, take, drop, slice_index_or};
 ghost use Rattle.std.specs.Vec.Iter.{into_iter_items};
-ghost use Rattle.rj_ledger.specs.Ledgers.{after_all};
+ghost use Rattle.rj_exchange.specs.Ledgers.{after_all};
 ghost use Rattle.rj_exchange.specs.Boxes.{sent_of, AreStubsOf};
 ghost use Rattle.rj_workers.specs.Arrivals.{AreFirstOf, AreOutboxes, HasArrived, parcel_of, parcels_of, stub_lists};
 ghost use Rattle.rj_workers.specs.Takes.{IsOwnedOf, IsBuilding};
@@ -11,8 +11,8 @@ ghost use Rattle.rj_workers.specs.Ends.{AreSlots, IsEnded};
 use crate::job::Job;
 use crate::settings::WorkerSettings;
 use crate::take::{Building, OwnedPartition, offer};
+use rj_exchange::ledger::Ledger;
 use rj_exchange::{Exchange, Outbox, Posted, Stub};
-use rj_ledger::{Ledger, complete_stays};
 use std::alloc::{AllocError, Global};
 use std::sync::Wait;
 use std::vec::IntoIter;
@@ -76,7 +76,6 @@ fn finish_one<R: Wait, J: Job>(
     ensures number { IfOk result (λ d. d.partition ≡ held.inbox.partition) }
     ensures built { IfOk result (λ d. IsBuilding (J.builds shared.now.job.now) held.inbox.partition d.ledger d.building) }
 {
-    complete_stays();
     let OwnedPartition {
         inbox,
         ledger,

@@ -1,10 +1,10 @@
 //! Places under locks, from which takers take the partitions that they draw.
 ghost use Rattle.std.specs.Prelude.{◌≡◌, ◌<◌, ℕ, IfOk, IfSome, Some, length, vec_len, slice_get};
-ghost use Rattle.rj_ledger.specs.Ledgers.{opened};
+ghost use Rattle.rj_exchange.specs.Ledgers.{opened};
 ghost use Rattle.rj_exchange.specs.declared.boxes.Inbox.{Inbox};
 
 use rj_exchange::Inbox;
-use rj_ledger::Ledger;
+use rj_exchange::ledger::Ledger;
 use std::alloc::{AllocError, Global};
 use std::marker::{Brand, PhantomData};
 use std::sync::{Mutex, Wait};

@@ -2,7 +2,7 @@
 ghost use Rattle.std.specs.Prelude.{◌≡◌, Contains, MatchOption};
 ghost use Rattle.std.specs.List.{list_all};
 ghost use Rattle.std.specs.List.Sorted.{IsPermutation};
-ghost use Rattle.rj_ledger.specs.declared.parcel.Parcel.{Parcel};
+ghost use Rattle.rj_exchange.specs.declared.ledger.parcel.Parcel.{Parcel};
 ghost use Rattle.rj_exchange.specs.Boxes.{sent_by_queue};
 ghost use Rattle.rj_workers.specs.Posts.{KeepsPosts, AddsLeft, AreInRange, PostsOrKeeps, IsLeft, IsPosted, is_sent, to_post};
 ghost use Rattle.rj_workers.specs.Scans.{KnowsHalt, IsScanner, SameScanner};
@@ -12,7 +12,7 @@ use crate::pause::Pause;
 use crate::scan::Scanner;
 use crate::shared::Shared;
 use rj_exchange::Full;
-use rj_ledger::Parcel;
+use rj_exchange::ledger::Parcel;
 use std::sync::Wait;
 use std::time::Clock;
 

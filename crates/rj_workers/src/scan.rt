@@ -1,7 +1,7 @@
 //! A scanner: it draws stripes, and posts what their senders have for each partition.
 ghost use Rattle.std.specs.Prelude.{◌≡◌, ◌<◌, ◌≤◌, ◌+◌, ◌∷◌, ◌++◌, [], IfOk, IfSome, MatchOption, MatchResult};
 ghost use Rattle.std.specs.List.Sorted.{IsPermutation};
-ghost use Rattle.rj_ledger.specs.Cutting.{plan};
+ghost use Rattle.rj_exchange.specs.Cutting.{plan};
 ghost use Rattle.rj_exchange.specs.Boxes.{sent_by_queue};
 ghost use Rattle.rj_exchange.specs.Stripes.{held_by, Holds, stripes_put_by};
 ghost use Rattle.rj_exchange.specs.Striping.{stripe as counted, without};
@@ -14,8 +14,8 @@ use crate::gate::{Gate, Place};
 use crate::job::Job;
 use crate::post::{Sending, post_all};
 use crate::shared::Shared;
-use rj_exchange::{HaltSeat, Outbox, StripeSeat, put_back_undoes};
-use rj_ledger::{cut, cut_is_planned};
+use rj_exchange::ledger::cut;
+use rj_exchange::{HaltSeat, Outbox, StripeSeat};
 use rj_radix::Scattered;
 use std::alloc::{AllocError, Global};
 use std::sync::Wait;
@@ -70,7 +70,6 @@ fn cut_stripe<J: Job, G>(
     requires rights { AreDue (J.due shared.now.job.now) (shared.now.settings.workers + stripe) shared.now.exchange.now.partitions rights.now }
     ensures { IfOk result (λ v. IsCutStripe (J.due shared.now.job.now) shared.now.settings.block shared.now.settings.workers shared.now.exchange.now stripe v.items) }
 {
-    cut_is_planned();
     let block = shared.settings.block;
     let mut lists = Vec::new(alloc);
     for partition in 0..shared.exchange.partitions() {
@@ -165,7 +164,6 @@ pub(crate) fn scan<R: Wait + Clock, J: Job, G: Gate>(
     requires new { NothingPosted (sent_by_queue me.outbox) × (held_by me.draws ≡ []) }
     ensures { IsScan (J.due shared.now.job.now) shared.now me.outbox.number result }
 {
-    put_back_undoes();
     for _ in rt.forever() {
         let Some((stripe, count)) = shared.stripes.draw(rt, &mut me.draws) else {
             return me;

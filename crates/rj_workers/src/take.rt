@@ -1,6 +1,6 @@
 //! A taker: it draws partitions, offers what arrives to their ledgers, and builds each one that is complete.
 ghost use Rattle.std.specs.Prelude.{◌≡◌, ◌<◌, All, IfOk, false, length};
-ghost use Rattle.rj_ledger.specs.Ledgers.{after_offer};
+ghost use Rattle.rj_exchange.specs.Ledgers.{after_offer};
 ghost use Rattle.rj_exchange.specs.Tickets.{limit_of};
 ghost use Rattle.rj_workers.specs.Takes.{IsTaker, IsOwned, IsTake, IsTried, AreOpened, is_settled};
 
@@ -9,8 +9,8 @@ use crate::job::Job;
 use crate::pause::Pause;
 use crate::places::{Fresh, PartitionPlace, take_place};
 use crate::shared::Shared;
+use rj_exchange::ledger::{Ledger, Parcel};
 use rj_exchange::{HaltSeat, Inbox, Seat};
-use rj_ledger::{Ledger, Parcel, complete_stays, shape_stays};
 use std::alloc::{AllocError, Global};
 use std::sync::Wait;
 use std::time::Clock;
@@ -64,7 +64,6 @@ fn take_once<R: Wait, J: Job, G>(
     requires held { IsOwned (J.builds shared.now.job.now) shared.now held.old }
     ensures { IfOk result (λ _. IsOwned (J.builds shared.now.job.now) shared.now held.new) }
 {
-    complete_stays();
     let Some(parcel) = held.inbox.take(rt, shared.exchange, lane) else {
         return Ok(false);
     };
@@ -101,7 +100,6 @@ fn build_complete<J: Job, G: Gate>(
     ensures held { IfOk result (λ _. IsOwned (J.builds shared.now.job.now) shared.now held.new) }
     ensures tried { IfOk result (λ _. is_settled held.old.building ≡ false → IsTried (J.joinable shared.now.job.now) held.new.ledger held.new.building) }
 {
-    shape_stays();
     if is_settled(held) || !held.ledger.complete() {
         return Ok(());
     }

@@ -2,7 +2,7 @@
 use Rattle.std.proofs.Common.{◌≡◌, ℕ, List, Option, None, Some, ap, drop, length, refl, subst}
 use Rattle.std.specs.Prelude.{IfSome}
 use Rattle.clap.specs.Words.{Text}
-use Rattle.rj_fault.specs.declared.fault.Fault.{Fault}
+use Rattle.rj_line.specs.declared.fault.Fault.{Fault}
 use Rattle.rj_line.specs.declared.request.Strictness.TheVariants.{Off}
 use Rattle.shards.specs.Cuts.{IsCutText, side_file}
 use Rattle.shards.specs.Heads.{HasHead, HasHeadFault}

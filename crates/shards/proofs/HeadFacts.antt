@@ -9,16 +9,16 @@ use Rattle.std.proofs.lemmas.List.Sums.{fold-append}
 use Rattle.std.proofs.Math.Seq.{take-length}
 use Rattle.std.proofs.lemmas.Bool.{false≢true}
 use Rattle.csv.specs.Reading.{is_bom, records, strip_bom}
-use Rattle.rj_strict.specs.Reading.{config_of}
-use Rattle.rj_strict.proofs.MarkedParts.{body-short, body-start}
-use Rattle.rj_strict.specs.declared.header.Header.TheVariants.{First}
+use Rattle.rj_csv_io.specs.StrictReading.{config_of}
+use Rattle.rj_csv_io.proofs.MarkedParts.{body-short, body-start}
+use Rattle.rj_csv_io.specs.declared.strict.header.HeaderPlace.TheVariants.{First}
 use Rattle.rj_csv_io.specs.Pieces.{names_in}
 use Rattle.rj_csv_io.specs.declared.pieces.Header.{Header}
 use Rattle.rj_csv_io.specs.declared.refused.ReadRefused.{ReadRefused}
 use Rattle.rj_csv_io.specs.declared.refused.ReadRefused.TheVariants as read
-use Rattle.rj_fault.specs.Faults.{read_fault}
-use Rattle.rj_fault.specs.declared.fault.Fault.{Fault}
-use Rattle.rj_fault.specs.declared.fault.Side.{Side}
+use Rattle.rj_line.specs.Faults.{read_fault}
+use Rattle.rj_line.specs.declared.fault.Fault.{Fault}
+use Rattle.rj_line.specs.declared.fault.Side.{Side}
 use Rattle.rj_line.specs.declared.request.Strictness.{Strictness}
 use Rattle.shards.specs.Heads.{Continues, HasNoFeed, IsFeed, IsFirstLine, IsFirstRecord, IsHeadFault, IsTold, is_open, mark_length}
 

@@ -4,12 +4,12 @@ use Rattle.std.proofs.lemmas.List.{length-map}
 use Rattle.clap.specs.Words.{Text, fault_of}
 use Rattle.rj_csv_io.specs.Typed.{null_texts}
 use Rattle.rj_line.specs.Line.{nulls_or}
-use Rattle.rj_fault.specs.declared.fault.Fault.{Fault}
-use Rattle.rj_fault.specs.declared.fault.Fault.TheVariants as fault
-use Rattle.rj_fault.specs.declared.fault.Side.TheVariants as side
+use Rattle.rj_line.specs.declared.fault.Fault.{Fault}
+use Rattle.rj_line.specs.declared.fault.Fault.TheVariants as fault
+use Rattle.rj_line.specs.declared.fault.Side.TheVariants as side
 use Rattle.rj_line.specs.Delimiters.{delimiter_given}
-use Rattle.rj_types.specs.Lists.{IsTypeList}
-use Rattle.rj_types.specs.declared.entry.TypeEntry.{TypeEntry}
+use Rattle.rj_settings.specs.Lists.{IsTypeList}
+use Rattle.rj_settings.specs.declared.types.entry.TypeEntry.{TypeEntry}
 use Rattle.shards.specs.Lines.{GiveTexts, GiveTypes, GivesTypes, IsLineFailure, IsTableFault, IsValueFailure, text_or_none, word_of, words_of}
 use Rattle.shards.specs.Options.{OptionWords, line_app}
 use Rattle.shards.specs.declared.failure.Failure.{Failure}

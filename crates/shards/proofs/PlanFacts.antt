@@ -6,13 +6,14 @@ use Rattle.clap.specs.Words.{Text}
 use Rattle.rj_columns.specs.Tables.{TableValue}
 use Rattle.rj_csv_io.specs.Tables.{are_null_texts, is_null_text}
 use Rattle.rj_csv_io.specs.Typed.{null_texts}
-use Rattle.rj_divide.specs.Divisions.{written_null}
-use Rattle.rj_divide.proofs.NullFacts.{written_lawful}
-use Rattle.rj_fault.specs.declared.fault.Fault.{Fault}
-use Rattle.rj_fault.specs.declared.fault.Fault.TheVariants as fault
-use Rattle.rj_fault.specs.declared.fault.Side.{Side}
+use Rattle.rj_shards.specs.Divisions.{written_null}
+use Rattle.rj_shards.proofs.NullFacts.{written_lawful}
+use Rattle.rj_line.specs.declared.fault.Fault.{Fault}
+use Rattle.rj_line.specs.declared.fault.Fault.TheVariants as fault
+use Rattle.rj_line.specs.declared.fault.Side.{Side}
 use Rattle.shards.specs.Heads.{HasHead, HasHeadFault}
 use Rattle.shards.specs.Lines.{operand_of}
+use Rattle.shards.specs.Outputs.{Printed}
 use Rattle.shards.specs.Plans.{HasSideHead, HasSideHeadFault, IsHeaderFault, IsOtherFailure, IsRangeFailure, IsRangeOf, IsToldAfter, of_keys, of_rows, has_lawful_nulls, header_table, other_side}
 use Rattle.shards.specs.Ranges.{IsOfReading, range_file}
 use Rattle.shards.specs.declared.dividing.Range.{Range}
@@ -79,7 +80,7 @@ range-is holds l bounds o range own line head table types nulls delimiter from t
 }
 
 -- the failure of a range whose rows were looked at
-pub looked : (holds : Text → Option Text) (tells : Bool) (l : Line) (bounds : Bounds) (range : Range) (found e : Failure) (told : List (Option Text)) (old new : Option Text)
+pub looked : (holds : Text → Option Text) (tells : Bool) (l : Line) (bounds : Bounds) (range : Range) (found e : Failure) (told : List (Option Text)) (old new : Printed)
     → has_lawful_nulls l ≡ true → IsRangeOf holds l bounds range → IsOtherFailure holds l range.own.now found
     → ((e ≡ found) × IsToldAfter (range_file holds range) range old new found) ⊎ IsOfReading (range_file holds range) range old new e → told ≡ []
     → IsRangeFailure holds tells l bounds told old new e

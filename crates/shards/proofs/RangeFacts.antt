@@ -4,25 +4,27 @@ use Rattle.std.specs.Prelude.{IfSome, nat_lt, replicate, ◌==◌}
 use Rattle.std.specs.Io.KnownBytes.{Appends}
 use Rattle.std.proofs.Math.Seq.{take-append_seam}
 use Rattle.std.proofs.lemmas.Bool.{cases_Bool}
-use Rattle.std.proofs.lemmas.List.{length-map}
+use Rattle.std.proofs.lemmas.List.{get_or-set_same, length-map}
 use Rattle.rj_columns.specs.Contents.{Content}
 use Rattle.rj_columns.specs.Names.{empty_table, name_fault}
 use Rattle.rj_columns.specs.Tables.{TableValue}
 use Rattle.rj_columns.specs.declared.cell.ColumnType.{ColumnType}
 use Rattle.rj_columns.specs.declared.refused.BuildRefused.{BuildRefused}
 use Rattle.rj_columns.specs.declared.refused.BuildRefused.TheVariants as build
-use Rattle.rj_divide.specs.Headers.{HaveText, HaveTextBefore}
-use Rattle.rj_divide.specs.Texts.{HaveFirstRows, IsTextDivided}
-use Rattle.rj_divide.specs.declared.refused.DivideRefused.{DivideRefused}
-use Rattle.rj_divide.specs.declared.refused.DivideRefused.TheVariants as refused
-use Rattle.rj_fault.specs.declared.fault.Fault.{Fault}
+use Rattle.rj_csv_io.specs.Devices.{after_failure}
+use Rattle.rj_shards.specs.Divisions.{counts_after}
+use Rattle.rj_shards.specs.Headers.{HaveText, HaveTextBefore}
+use Rattle.rj_shards.specs.Texts.{HaveFirstRows, IsTextDivided}
+use Rattle.rj_shards.specs.declared.division.refused.DivideRefused.{DivideRefused}
+use Rattle.rj_shards.specs.declared.division.refused.DivideRefused.TheVariants as refused
+use Rattle.rj_line.specs.declared.fault.Fault.{Fault}
 use Rattle.shards.specs.Lines.{operand_of}
-use Rattle.shards.specs.Ranges.{AreAllRows, AreParted, HaveHeaderBefore, IsFileFault, IsOfPartRows, IsOfParts, bytes_between, range_begin, range_bytes, range_dividing, range_file, range_header, range_reading}
+use Rattle.shards.specs.Ranges.{AreAllRows, AreParted, HaveHeaderBefore, IsFileFault, IsOfPartRows, IsOfParts, IsOfRows, IsRowsFault, bytes_between, range_begin, range_bytes, range_dividing, range_file, range_header, range_reading}
 use Rattle.shards.specs.declared.dividing.Range.{Range}
 use Rattle.shards.specs.declared.failure.Failure.{Failure}
 use Rattle.shards.specs.declared.failure.Failure.TheVariants.{Told}
-use Rattle.rj_divide.proofs.DivisionFacts.{part-none}
-use Rattle.rj_divide.proofs.FirstFacts.{begin-none}
+use Rattle.rj_shards.proofs.DivisionFacts.{part-none}
+use Rattle.rj_shards.proofs.FirstFacts.{begin-none}
 use Rattle.shards.specs.declared.line.Operand.{Operand}
 use Rattle.shards.proofs.StorageFacts.{if-told}
 
@@ -62,6 +64,40 @@ pub unopened-rows : (part : List Content → ℕ) (file : Option (List ℕ)) (ra
     → IsOfPartRows part file range told told (Told f)
 unopened-rows part file range told f (inl device) = (refused.ReadDevice, ap Told device, if-told file _ (λ text. tt), none-got part file range told refused.ReadDevice)
 unopened-rows part file range told f (inr memory) = (refused.Memory, ap Told memory, if-told file _ (λ text. tt), none-got part file range told refused.Memory)
+
+-- nor any that are read, whatever is written
+pub unread-rows : (part : List Content → ℕ) (file : Option (List ℕ)) (range : Range) (parts : ℕ) (f : Fault) → IsFileFault range.line.now.side f
+    → IsOfRows part file range parts (Told f)
+unread-rows part file range parts f (inl device) = (refused.ReadDevice, ap Told device, if-told file _ (λ text. tt))
+unread-rows part file range parts f (inr memory) = (refused.Memory, ap Told memory, if-told file _ (λ text. tt))
+
+-- an error that no output has is one also if there are none
+pub unwritten-rows : (part : List Content → ℕ) (file : Option (List ℕ)) (range : Range) (parts : ℕ) (e : DivideRefused) → IsRowsFault part file range parts e
+    → ((p : ℕ) → e ≡ refused.WriteDevice p → p < parts → ⊥) → IsRowsFault part file range 0 e
+unwritten-rows part None range parts e why kept = tt
+unwritten-rows part (Some text) range parts (refused.Read f) why kept = why
+unwritten-rows part (Some text) range parts refused.TooLong why kept = why
+unwritten-rows part (Some text) range parts refused.ReadDevice why kept = why
+unwritten-rows part (Some text) range parts (refused.Broken f) why kept = why
+unwritten-rows part (Some text) range parts (refused.WriteDevice p) why kept = absurd (kept p refl why)
+unwritten-rows part (Some text) range parts refused.Memory why kept = why
+
+-- outputs that never fail
+zero-at : {X : Type 0} (count : X → ℕ) (xs : List X) (p : ℕ) → ((x : X) → count x ≡ 0) → get_or (map count xs) p 0 ≡ 0
+zero-at count [] p never = refl
+zero-at count (x ∷ xs) zero never = never x
+zero-at count (x ∷ xs) (suc p) never = zero-at count xs p never
+
+pub none-failed : {X : Type 0} (count : X → ℕ) (old new : List X) (e : DivideRefused) (p : ℕ) → ((x : X) → count x ≡ 0)
+    → map count new ≡ counts_after {T = ℕ} (Err e) (map count old) → e ≡ refused.WriteDevice p → p < length old → ⊥
+none-failed count old new e p never same is low =
+    let counts = map count old in
+    let one : 0 ≡ 1 =
+    sym (zero-at count new p never)
+    ∙ (ap (λ l. get_or l p 0) (same ∙ ap (λ r. counts_after {T = ℕ} (Err r) counts) is)
+    ∙ (get_or-set_same counts p (after_failure (get_or counts p 0)) 0 (omega (arith, low, length-map old count))
+    ∙ ap after_failure (zero-at count old p never))) in
+    absurd (omega (arith, one))
 
 -- the rows of a range that was divided
 pub all-rows : (part : List Content → ℕ) (file : Option (List ℕ)) (range : Range) (before after : List (Option (List ℕ))) (n : ℕ)

@@ -1,12 +1,12 @@
 -- What is known of a file by the device that tells its bytes.
-use Rattle.std.proofs.Common.{◌≡◌, ℕ, List, [], Option, None, Some, Bool, true, false, true≢false, inl, inr, refl, sym, ap, subst, ◌∙◌, ◌≢◌}
-use Rattle.std.specs.Prelude.{IfSome}
-use Rattle.std.specs.Io.KnownBytes.{Consumes}
+use Rattle.std.proofs.Common.{◌≡◌, ℕ, List, [], Option, None, Some, Bool, true, false, true≢false, inl, inr, refl, sym, ap, subst, ◌∙◌, ◌≢◌, ◌<◌, ◌≤◌, arith, length}
+use Rattle.std.specs.Prelude.{IfSome, ◌^◌}
+use Rattle.std.specs.Io.KnownBytes.{Consumes, IsAtEnd}
 use Rattle.rj_csv_io.specs.declared.refused.ReadRefused.{ReadRefused}
 use Rattle.rj_csv_io.specs.declared.refused.ReadRefused.TheVariants as read
-use Rattle.rj_fault.specs.Faults.{read_fault}
-use Rattle.rj_fault.specs.declared.fault.Fault.{Fault}
-use Rattle.rj_fault.specs.declared.fault.Side.{Side}
+use Rattle.rj_line.specs.Faults.{read_fault}
+use Rattle.rj_line.specs.declared.fault.Fault.{Fault}
+use Rattle.rj_line.specs.declared.fault.Side.{Side}
 use Rattle.rj_line.specs.declared.request.Strictness.{Strictness}
 use Rattle.shards.specs.Heads.{Begins, HasHead, HasHeadFault}
 use Rattle.shards.specs.Ranges.{IsFileFault}
@@ -43,14 +43,20 @@ pub none-taken : (tells : Option (List ℕ)) → Consumes tells tells []
 none-taken None = tt
 none-taken (Some text) = refl
 
+-- a device that was read up to a mebibyte, or to its end
+pub whole-or-long : (whole : Bool) (size : ℕ) (left : Option (List ℕ)) → (whole ≡ true → IsAtEnd left) → (whole ≡ false → 2 ^ 20 ≤ size) → size < 2 ^ 20 → IsAtEnd left
+whole-or-long true size left end full few = end refl
+whole-or-long false size left end full few = absurd (omega (arith, full refl, few))
+
 -- bytes that were taken from the beginning of a file
-pub taken-first : (file tells left : Option (List ℕ)) (bytes : List ℕ) → IfSome file (λ text. tells ≡ Some text) → Consumes tells left bytes → Begins file bytes
-taken-first None tells left bytes is taken = tt
-taken-first (Some text) tells left bytes is taken = go left (subst (λ o. Consumes o left bytes) is taken)
+pub taken-first : (file tells left : Option (List ℕ)) (bytes : List ℕ) → IfSome file (λ text. tells ≡ Some text) → Consumes tells left bytes
+    → (length bytes < 2 ^ 20 → IsAtEnd left) → Begins file bytes
+taken-first None tells left bytes is taken end = tt
+taken-first (Some text) tells left bytes is taken end = go left (subst (λ o. Consumes o left bytes) is taken) end
   where
-    go : (left : Option (List ℕ)) → Consumes (Some text) left bytes → Begins (Some text) bytes
-    go None taken = absurd taken
-    go (Some rest) taken = (rest, taken)
+    go : (left : Option (List ℕ)) → Consumes (Some text) left bytes → (length bytes < 2 ^ 20 → IsAtEnd left) → Begins (Some text) bytes
+    go None taken end = absurd taken
+    go (Some rest) taken end = (rest, taken, end)
 
 abbrev is_memory : ReadRefused → Bool
 is_memory read.Memory = true

@@ -1,15 +1,15 @@
 -- Where a side's file can be cut, in lines, and why that isn't said.
 use Rattle.std.specs.Prelude.{ℕ, ◌≡◌, ◌+◌, ◌-◌, ◌/◌, ◌^◌, ◌++◌, ◌∷◌, [], List, length, drop, Option, IfSome, decimal, flat_map, if◌then◌else◌, max, min, nat_lt}
-use Rattle.std.specs.Io.KnownBytes.{Appends}
 use Rattle.clap.specs.Words.{Text}
-use Rattle.rj_divide.specs.Ranges.{AreCuts, IsCutFault}
-use Rattle.rj_divide.specs.declared.refused.DivideRefused.{DivideRefused}
-use Rattle.rj_fault.specs.declared.fault.Fault.{Fault}
-use Rattle.rj_fault.specs.declared.fault.Fault.TheVariants as fault
-use Rattle.rj_fault.specs.declared.fault.Side.{Side}
+use Rattle.rj_shards.specs.Ranges.{AreCuts, IsCutFault}
+use Rattle.rj_shards.specs.declared.division.refused.DivideRefused.{DivideRefused}
+use Rattle.rj_line.specs.declared.fault.Fault.{Fault}
+use Rattle.rj_line.specs.declared.fault.Fault.TheVariants as fault
+use Rattle.rj_line.specs.declared.fault.Side.{Side}
 use Rattle.rj_line.specs.declared.request.Strictness.TheVariants as strictness
 use Rattle.shards.specs.Heads.{HasHead, HasHeadFault}
 use Rattle.shards.specs.Lines.{operand_of}
+use Rattle.shards.specs.Outputs.{IsOfOutput, IsPrinted, Printed}
 use Rattle.shards.specs.Ranges.{IsFileFault, division_fault}
 use Rattle.shards.specs.declared.cutting.CutText.{CutText}
 use Rattle.shards.specs.declared.failure.Failure.{Failure}
@@ -54,18 +54,18 @@ pub record IsCutText (holds : Text → Option Text) (l : Line) (ranges : ℕ) (c
   pub end : IfSome (side_file holds l) (λ text. cut.end ≡ length text)
 
 -- the lines of the places of a file are printed; of one without a header, nothing is
-pub data IsCutting (holds : Text → Option Text) (l : Line) (ranges : ℕ) (old new : Option Text) : Type 0 where
+pub data IsCutting (holds : Text → Option Text) (l : Line) (ranges : ℕ) (old new : Printed) : Type 0 where
   of_text : (cut : CutText) (lines : List ℕ) → IsCutText holds l ranges cut → IfSome (side_file holds l) (λ text. HasCutLines cut (drop cut.begin text) lines)
-      → Appends old new lines → IsCutting holds l ranges old new
+      → IsPrinted old new lines → IsCutting holds l ranges old new
   of_none : (s : Side) → HasHeadFault strictness.Off (operand_of l l.side).delimiter l.side (side_file holds l) (fault.NoHeader s) → new ≡ old
       → IsCutting holds l ranges old new
 
 -- why they aren't printed: the file has no header that can be read, or has no places, or can't be
 -- read, and nothing is printed; or the output failed
-pub data IsCutsFailure (holds : Text → Option Text) (l : Line) (ranges : ℕ) (old new : Option Text) : Failure → Type 0 where
+pub data IsCutsFailure (holds : Text → Option Text) (l : Line) (ranges : ℕ) (old new : Printed) : Failure → Type 0 where
   of_head : (f : Fault) → HasHeadFault strictness.Off (operand_of l l.side).delimiter l.side (side_file holds l) f → new ≡ old
       → IsCutsFailure holds l ranges old new (failure.Told f)
   of_cuts : (cut : CutText) (e : Failure) → IsCutText holds l ranges cut → IfSome (side_file holds l) (λ text. HasCutFailure l.side (drop cut.begin text) e) → new ≡ old
       → IsCutsFailure holds l ranges old new e
   of_file : (f : Fault) → IsFileFault l.side f → new ≡ old → IsCutsFailure holds l ranges old new (failure.Told f)
-  of_output : (e : Failure) → e ≡ failure.Told fault.WriteDevice → IsCutsFailure holds l ranges old new e
+  of_output : (e : Failure) → IsOfOutput old new e → IsCutsFailure holds l ranges old new e

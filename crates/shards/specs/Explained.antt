@@ -1,13 +1,13 @@
 -- Faults of which `--explain` tells more, and what it tells.
-use Rattle.std.specs.Prelude.{◌≡◌, ◌⊎◌, ◌==◌, not, if◌then◌else◌, Bool, true, false, List, [], ◌∷◌, ℕ, Option, None, IsSomeAnd, codes}
+use Rattle.std.specs.Prelude.{◌≡◌, ◌≢◌, ◌⊎◌, ◌==◌, not, if◌then◌else◌, Bool, true, false, List, [], ◌∷◌, ℕ, Option, None, IsSomeAnd, codes}
 use Rattle.std.specs.List.{before_first, list_any}
 use Rattle.std.specs.Str.{bytes_eq}
 use Rattle.rj_explain.specs.Explained.{IsExplained}
 use Rattle.rj_explain.specs.Listed.{AreWordsTold}
 use Rattle.rj_explain.specs.declared.inputs.Inputs.{Inputs}
-use Rattle.rj_fault.specs.declared.fault.Fault.{Fault}
-use Rattle.rj_fault.specs.declared.fault.Fault.TheVariants as fault
-use Rattle.rj_line.specs.Line.{IsLineOf}
+use Rattle.rj_line.specs.declared.fault.Fault.{Fault}
+use Rattle.rj_line.specs.declared.fault.Fault.TheVariants as fault
+use Rattle.rj_line.specs.Line.{IsLineFault, IsLineOf}
 use Rattle.rj_line.specs.declared.line.Line.{Line}
 use Rattle.shards.specs.Heads.{Begins}
 use Rattle.shards.specs.declared.failure.Failure.{Failure}
@@ -60,13 +60,19 @@ pub record IsToldOf (holds : List ℕ → Option (List ℕ)) (f : Fault) (words 
   pub right : Begins (holds line.right.now) inputs.right.now
   pub lines_told : IsExplained f inputs lines
 
--- what is told of a fault of headers: this, or nothing
-abbrev pub AreHeadersTold : (List ℕ → Option (List ℕ)) → Fault → List (List ℕ) → List ℕ → Type 0
-AreHeadersTold holds f words lines = (lines ≡ []) ⊎ IsToldOf holds f (without_own false words) lines
+-- why nothing is told: these words are no line of a join in one go, or a file can't be read (`fails`
+-- says that one may fail)
+abbrev pub IsUntold : Type 0 → List (List ℕ) → Type 0
+IsUntold fails words = ((f : Fault) × (f ≢ fault.Memory) × IsLineFault words f) ⊎ fails
+
+-- what is told of a fault of headers: this, or nothing for one of these reasons
+abbrev pub AreHeadersTold : (List ℕ → Option (List ℕ)) → Type 0 → Fault → List (List ℕ) → List ℕ → Type 0
+AreHeadersTold holds fails f words lines =
+    ((lines ≡ []) × IsUntold fails (without_own false words)) ⊎ IsToldOf holds f (without_own false words) lines
 
 -- the lines of a failure with these words: those for a fault of headers, or else for an invalid value of
 -- an option, and none for all else
-abbrev pub AreLinesOf : (List ℕ → Option (List ℕ)) → Failure → List (List ℕ) → Option (List ℕ) → Type 0
-AreLinesOf holds (Told f) words lines =
-    (is_of_headers f ≡ true → IsSomeAnd lines (AreHeadersTold holds f words)) × (is_of_headers f ≡ false → AreWordsTold f words lines)
-AreLinesOf holds e words lines = lines ≡ None
+abbrev pub AreLinesOf : (List ℕ → Option (List ℕ)) → Type 0 → Failure → List (List ℕ) → Option (List ℕ) → Type 0
+AreLinesOf holds fails (Told f) words lines =
+    (is_of_headers f ≡ true → IsSomeAnd lines (AreHeadersTold holds fails f words)) × (is_of_headers f ≡ false → AreWordsTold f words lines)
+AreLinesOf holds fails e words lines = lines ≡ None

@@ -1,9 +1,9 @@
 -- The lines and the exit statuses of what ends `shards` without its output.
 use Rattle.std.specs.Prelude.{◌≡◌, ◌⊎◌, ℕ, List, codes, Option, None, Some, Result, Ok, Err}
 use Rattle.clap.specs.declared.error.Error.{Error}
-use Rattle.rj_fault.specs.Faults as faults
-use Rattle.rj_fault.specs.Faults.{IsAskedFor}
-use Rattle.rj_fault.specs.declared.fault.Fault.TheVariants as fault
+use Rattle.rj_line.specs.Faults as faults
+use Rattle.rj_line.specs.Faults.{IsAskedFor}
+use Rattle.rj_line.specs.declared.fault.Fault.TheVariants as fault
 use Rattle.shards.specs.declared.explaining.ExplainedFailure.{ExplainedFailure}
 use Rattle.shards.specs.declared.failure.Failure.{Failure}
 use Rattle.shards.specs.declared.failure.Failure.TheVariants.{NoKey, NoTask, NotText, Told}

@@ -1,18 +1,18 @@
 -- The header of a text: what is read of it, where the first range of rows begins, and why none is read.
-use Rattle.std.specs.Prelude.{ℕ, ◌≡◌, ◌≢◌, ◌+◌, ◌-◌, ◌<◌, ◌≤◌, ◌⊎◌, ◌++◌, ◌==◌, not, if◌then◌else◌, Bool, true, false, List, [], ◌∷◌, fold, length, take, slice_index, Option, IfSome}
+use Rattle.std.specs.Prelude.{ℕ, ◌≡◌, ◌≢◌, ◌+◌, ◌-◌, ◌<◌, ◌≤◌, ◌^◌, ◌⊎◌, ◌++◌, ◌==◌, not, if◌then◌else◌, Bool, true, false, List, [], ◌∷◌, fold, length, take, slice_index, Option, IfSome}
 use Rattle.csv.specs.Reading.{records, strip_bom}
 use Rattle.rj_command.specs.Sides.{strict_fault}
 use Rattle.rj_csv_io.specs.Pieces.{names_in}
-use Rattle.rj_fault.specs.declared.fault.Fault.{Fault}
-use Rattle.rj_fault.specs.declared.fault.Fault.TheVariants as fault
-use Rattle.rj_fault.specs.declared.fault.Side.{Side}
+use Rattle.rj_line.specs.declared.fault.Fault.{Fault}
+use Rattle.rj_line.specs.declared.fault.Fault.TheVariants as fault
+use Rattle.rj_line.specs.declared.fault.Side.{Side}
 use Rattle.rj_line.specs.declared.request.Strictness.{Strictness}
 use Rattle.rj_line.specs.declared.request.Strictness.TheVariants as strictness
-use Rattle.rj_strict.specs.Faults.{HasFault}
-use Rattle.rj_strict.specs.Grammar.{Derives, File, dquote, lf, records_of}
-use Rattle.rj_strict.specs.Reading.{config_of}
-use Rattle.rj_strict.specs.declared.fault.StrictFault.{StrictFault}
-use Rattle.rj_strict.specs.declared.header.Header.TheVariants.{First}
+use Rattle.rj_csv_io.specs.StrictFaults.{HasFault}
+use Rattle.rj_csv_io.specs.Grammar.{Derives, File, dquote, lf, records_of}
+use Rattle.rj_csv_io.specs.StrictReading.{config_of}
+use Rattle.rj_csv_io.specs.declared.strict.fault.StrictFault.{StrictFault}
+use Rattle.rj_csv_io.specs.declared.strict.header.HeaderPlace.TheVariants.{First}
 use Rattle.shards.specs.declared.head.Head.{Head}
 
 -- a quote is open behind these bytes: each one opens or closes
@@ -95,6 +95,6 @@ HasHead how d tells h = (text : List ℕ) × IsTold tells text × IsHeadOf how d
 abbrev pub HasHeadFault : Strictness → ℕ → Side → Option (List ℕ) → Fault → Type 0
 HasHeadFault how d s tells f = (text : List ℕ) × IsTold tells text × IsHeadFault how d s text f
 
--- bytes are the first ones of a text, if it is told
+-- bytes are the first ones of a text, if it is told: a mebibyte or more, or else all of them
 abbrev pub Begins : Option (List ℕ) → List ℕ → Type 0
-Begins tells bytes = IfSome tells (λ text. (more : List ℕ) × (text ≡ bytes ++ more))
+Begins tells bytes = IfSome tells (λ text. (more : List ℕ) × (text ≡ bytes ++ more) × (length bytes < 2 ^ 20 → more ≡ []))

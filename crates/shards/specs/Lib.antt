@@ -4,6 +4,8 @@ pub mod Failures
 pub mod Heads
 pub mod Lines
 pub mod Options
+pub mod Outputs
 pub mod Plans
 pub mod Ranges
+pub mod Storages
 pub mod Works

@@ -5,17 +5,17 @@ use Rattle.std.specs.Str.Parse.{IsNumeral, digits_value, without_leading_plus}
 use Rattle.clap.specs.Words.{IsAmong, Text, all_of, fault_of, first_of, kind_of, matches_of}
 use Rattle.clap.specs.declared.error.kind.ErrorKind.TheVariants.{OutOfMemory}
 use Rattle.rj_csv_io.specs.Typed.{null_texts}
-use Rattle.rj_fault.specs.declared.fault.Fault.{Fault}
-use Rattle.rj_fault.specs.declared.fault.Fault.TheVariants as fault
-use Rattle.rj_fault.specs.declared.fault.Side.{Side}
-use Rattle.rj_fault.specs.declared.fault.Side.TheVariants as side
+use Rattle.rj_line.specs.declared.fault.Fault.{Fault}
+use Rattle.rj_line.specs.declared.fault.Fault.TheVariants as fault
+use Rattle.rj_line.specs.declared.fault.Side.{Side}
+use Rattle.rj_line.specs.declared.fault.Side.TheVariants as side
 use Rattle.rj_line.specs.Delimiters.{delimiter_given}
 use Rattle.rj_line.specs.Line.{null_word, nulls_or}
 use Rattle.rj_line.specs.Named.{is_word}
 use Rattle.rj_line.specs.declared.request.Strictness.{Strictness}
 use Rattle.rj_line.specs.declared.request.Strictness.TheVariants as strictness
-use Rattle.rj_types.specs.Lists.{IsTypeList}
-use Rattle.rj_types.specs.declared.entry.TypeEntry.{TypeEntry}
+use Rattle.rj_settings.specs.Lists.{IsTypeList}
+use Rattle.rj_settings.specs.declared.types.entry.TypeEntry.{TypeEntry}
 use Rattle.shards.specs.Options.{OptionWords, line_app}
 use Rattle.shards.specs.declared.failure.Failure.{Failure}
 use Rattle.shards.specs.declared.failure.Failure.TheVariants as failure

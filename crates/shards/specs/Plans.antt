@@ -11,14 +11,15 @@ use Rattle.rj_condition.specs.declared.bound.BoundJoin.{BoundJoin}
 use Rattle.rj_csv_io.specs.Pieces.{names_in}
 use Rattle.rj_csv_io.specs.Tables.{are_null_texts, of_begun}
 use Rattle.rj_csv_io.specs.Typed.{null_texts}
-use Rattle.rj_fault.specs.Faults.{read_fault}
-use Rattle.rj_fault.specs.declared.fault.Fault.{Fault}
-use Rattle.rj_fault.specs.declared.fault.Fault.TheVariants as fault
-use Rattle.rj_fault.specs.declared.fault.Side.{Side}
-use Rattle.rj_fault.specs.declared.fault.Side.TheVariants as side
-use Rattle.rj_types.specs.Columns.{types_under}
+use Rattle.rj_line.specs.Faults.{read_fault}
+use Rattle.rj_line.specs.declared.fault.Fault.{Fault}
+use Rattle.rj_line.specs.declared.fault.Fault.TheVariants as fault
+use Rattle.rj_line.specs.declared.fault.Side.{Side}
+use Rattle.rj_line.specs.declared.fault.Side.TheVariants as side
+use Rattle.rj_settings.specs.Columns.{types_under}
 use Rattle.shards.specs.Heads.{HasHead, HasHeadFault}
 use Rattle.shards.specs.Lines.{operand_of}
+use Rattle.shards.specs.Outputs.{Printed}
 use Rattle.shards.specs.Ranges.{AreCounted, AreDivided, IsOfFolder, IsOfReading, mixed_shard, range_file, unlawful_null}
 use Rattle.shards.specs.declared.dividing.Range.{Range}
 use Rattle.shards.specs.declared.failure.Failure.{Failure}
@@ -84,7 +85,7 @@ is_after_rows (failure.Told fault.Memory) = false
 is_after_rows e = true
 
 -- so all rows are counted then, or else nothing is printed
-abbrev pub IsToldAfter : Option Text → Range → Option Text → Option Text → Failure → Type 0
+abbrev pub IsToldAfter : Option Text → Range → Printed → Printed → Failure → Type 0
 IsToldAfter file range old new e = (is_after_rows e ≡ true → AreCounted file range old new) × (is_after_rows e ≡ false → new ≡ old)
 
 -- (`holds` is what the files of names have)
@@ -126,7 +127,7 @@ pub record IsRangeOf (holds : Text → Option Text) (l : Line) (bounds : Bounds)
 
 -- the range is divided among as many parts as asked for, each row by its key at the key columns of
 -- the clause, and how many rows and how long a header they have is printed
-pub record IsDivision (holds : Text → Option Text) (tells : Bool) (l : Line) (bounds : Bounds) (told : List (Option Text)) (old new : Option Text) : Type 0 where
+pub record IsDivision (holds : Text → Option Text) (tells : Bool) (l : Line) (bounds : Bounds) (told : List (Option Text)) (old new : Printed) : Type 0 where
   pub lawful : has_lawful_nulls l ≡ true
   pub range : Range
   pub is : IsRangeOf holds l bounds range
@@ -147,7 +148,7 @@ pub data IsOwnFailure (holds : Text → Option Text) (l : Line) : Failure → Ty
 -- why a range isn't divided, in this order, and what is there then: the side's file isn't read up to its
 -- rows; these are not divided among the parts; or, without parts, they aren't all read, or the other file
 -- or the clause gives no keys, which most failures tell only after all rows were read and counted
-pub data IsRangeFailure (holds : Text → Option Text) (tells : Bool) (l : Line) (bounds : Bounds) (told : List (Option Text)) (old new : Option Text) : Failure → Type 0 where
+pub data IsRangeFailure (holds : Text → Option Text) (tells : Bool) (l : Line) (bounds : Bounds) (told : List (Option Text)) (old new : Printed) : Failure → Type 0 where
   of_own : (e : Failure) → IsOwnFailure holds l e → told ≡ [] → new ≡ old → IsRangeFailure holds tells l bounds told old new e
   of_parts : (range : Range) (columns : List ℕ) (e : Failure) → has_lawful_nulls l ≡ true → IsRangeOf holds l bounds range → AreKeysOver holds l range.own.now columns
       → IsOfFolder tells (range_file holds range) (mixed_shard l.parts columns) range l.parts told old new e → IsRangeFailure holds tells l bounds told old new e

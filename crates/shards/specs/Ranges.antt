@@ -1,6 +1,5 @@
 -- How a range of a side's file is divided, and why it isn't.
 use Rattle.std.specs.Prelude.{ℕ, ◌==◌, ◌≡◌, ◌⊎◌, ◌++◌, ◌∷◌, [], if◌then◌else◌, true, false, All, Bool, List, length, drop, replicate, slice_range, Option, None, Some, IfSome, Result, Err, codes, decimal}
-use Rattle.std.specs.Io.KnownBytes.{Appends}
 use Rattle.rj_columns.specs.Contents.{Content}
 use Rattle.rj_columns.specs.Names.{empty_table}
 use Rattle.rj_columns.specs.Tables.{TableValue}
@@ -8,23 +7,24 @@ use Rattle.rj_columns.specs.declared.refused.BuildRefused.{BuildRefused}
 use Rattle.rj_command.specs.Sides.{strict_fault}
 use Rattle.rj_csv_io.specs.Pieces.{AreRows, names_in}
 use Rattle.rj_csv_io.specs.Typed.{null_texts}
-use Rattle.rj_divide.specs.Divisions.{Dividing}
-use Rattle.rj_divide.specs.Headers.{HaveText, HaveTextBefore, IsHeaderFault, header_text}
-use Rattle.rj_divide.specs.Texts.{AreRecordsOf, HaveFirstRows, IsDivisionFault, IsTextDivided}
-use Rattle.rj_divide.specs.declared.reading.Reading.{Reading}
-use Rattle.rj_divide.specs.declared.reading.Reading.TheVariants as reading
-use Rattle.rj_divide.specs.declared.refused.DivideRefused.{DivideRefused}
-use Rattle.rj_divide.specs.declared.refused.DivideRefused.TheVariants as divide
-use Rattle.rj_fault.specs.Faults.{read_fault}
-use Rattle.rj_fault.specs.declared.fault.Fault.{Fault}
-use Rattle.rj_fault.specs.declared.fault.Fault.TheVariants as fault
-use Rattle.rj_fault.specs.declared.fault.Side.{Side}
-use Rattle.rj_fault.specs.declared.fault.Side.TheVariants as side
+use Rattle.rj_shards.specs.Divisions.{Dividing}
+use Rattle.rj_shards.specs.Headers.{HaveText, HaveTextBefore, IsHeaderFault, header_text}
+use Rattle.rj_shards.specs.Texts.{AreRecordsOf, HaveFirstRows, IsDivisionFault, IsTextDivided}
+use Rattle.rj_shards.specs.declared.division.reading.Reading.{Reading}
+use Rattle.rj_shards.specs.declared.division.reading.Reading.TheVariants as reading
+use Rattle.rj_shards.specs.declared.division.refused.DivideRefused.{DivideRefused}
+use Rattle.rj_shards.specs.declared.division.refused.DivideRefused.TheVariants as divide
+use Rattle.rj_line.specs.Faults.{read_fault}
+use Rattle.rj_line.specs.declared.fault.Fault.{Fault}
+use Rattle.rj_line.specs.declared.fault.Fault.TheVariants as fault
+use Rattle.rj_line.specs.declared.fault.Side.{Side}
+use Rattle.rj_line.specs.declared.fault.Side.TheVariants as side
 use Rattle.rj_line.specs.declared.request.Strictness.{Strictness}
 use Rattle.rj_line.specs.declared.request.Strictness.TheVariants as strictness
 use Rattle.rj_radix.specs.Hashes.{mixed, plain}
 use Rattle.rj_shards.specs.Routes.{shard_of_cells}
 use Rattle.shards.specs.Lines.{operand_of}
+use Rattle.shards.specs.Outputs.{IsOfOutput, IsPrinted, Printed}
 use Rattle.shards.specs.declared.dividing.Range.{Range}
 use Rattle.shards.specs.declared.failure.Failure.{Failure}
 use Rattle.shards.specs.declared.failure.Failure.TheVariants as failure
@@ -83,21 +83,22 @@ AreParted file part range told n = IfSome file (λ text.
 abbrev pub counts_line : ℕ → ℕ → List ℕ
 counts_line rows header = codes "rows " ++ (decimal rows ++ (codes " header " ++ (decimal header ++ 10 ∷ [])))
 
--- the parts have this, if they tell what they got; and how many rows there are is printed
-pub record AreDivided (tells : Bool) (file : Option (List ℕ)) (part : List Content → ℕ) (range : Range) (told : List (Option (List ℕ))) (old new : Option (List ℕ)) : Type 0 where
-  pub rows : ℕ
-  pub parted : tells ≡ true → AreParted file part range told rows
-  pub printed : Appends old new (counts_line rows (length (range_header range)))
-
 -- each record of a range is a row, and there are so many
 abbrev pub AreAllRows : Option (List ℕ) → Range → ℕ → Type 0
 AreAllRows file range n = IfSome file (λ text. (records : List (List (List ℕ))) × (rows : List (List Content))
     × AreRecordsOf range.delimiter (length range.types.now) (range_reading range.line.now.strict range.from) (range_bytes range text) records
     × AreRows (null_texts range.nulls.now) range.types.now records rows × (n ≡ length rows))
 
--- so it is, and how many there are is printed, with no header
-abbrev pub AreCounted : Option (List ℕ) → Range → Option (List ℕ) → Option (List ℕ) → Type 0
-AreCounted file range old new = (n : ℕ) × AreAllRows file range n × Appends old new (counts_line n 0)
+-- so many rows are in a range; the parts have them, if they tell what they got; and how many is printed
+pub record AreDivided (tells : Bool) (file : Option (List ℕ)) (part : List Content → ℕ) (range : Range) (told : List (Option (List ℕ))) (old new : Printed) : Type 0 where
+  pub rows : ℕ
+  pub counted : AreAllRows file range rows
+  pub parted : tells ≡ true → AreParted file part range told rows
+  pub printed : IsPrinted old new (counts_line rows (length (range_header range)))
+
+-- so many rows are in a range, and how many is printed, with no header
+abbrev pub AreCounted : Option (List ℕ) → Range → Printed → Printed → Type 0
+AreCounted file range old new = (n : ℕ) × AreAllRows file range n × IsPrinted old new (counts_line n 0)
 
 -- the fault of a side's file that wasn't divided
 abbrev pub division_fault : Side → DivideRefused → Fault
@@ -127,12 +128,14 @@ IsOfPartRows part file range before after e = (refused : DivideRefused) × (e �
     × IsRowsFault part file range (length before) refused × IfSome file (λ text.
     HaveFirstRows (range_dividing part range) (range_reading range.line.now.strict range.from) (range_bytes range text) before after refused)
 
--- why the header of these parts isn't written: with the column of places it makes no table, or a part
--- failed; those before that one have got it, and all others are as they were
+-- where a part failed, those before it have got the header and those after it are as they were; for
+-- all else they all are
 abbrev pub HaveHeaderBefore : List ℕ → List (Option (List ℕ)) → List (Option (List ℕ)) → DivideRefused → Type 0
 HaveHeaderBefore header before after (divide.WriteDevice p) = HaveTextBefore p header before after
 HaveHeaderBefore header before after e = after ≡ before
 
+-- why the header of these parts isn't written, and what they have: with the column of places it makes
+-- no table, or a part failed
 abbrev pub IsOfHeader : Range → List (Option (List ℕ)) → List (Option (List ℕ)) → Failure → Type 0
 IsOfHeader range before after e = (refused : DivideRefused) × (e ≡ failure.Told (division_fault range.line.now.side refused))
     × IsHeaderFault range.own.now (place_name range.line.now.side) (length before) refused × HaveHeaderBefore (range_header range) before after refused
@@ -144,28 +147,29 @@ IsOfParts part file range before after e = IsOfHeader range before after e
     ⊎ ((headed : List (Option (List ℕ))) × (length headed ≡ length before) × HaveText (range_header range) before headed × IsOfPartRows part file range headed after e)
 
 -- why a line isn't printed: the output failed, or memory ran out and nothing is printed
-abbrev pub IsOfWriting : Option (List ℕ) → Option (List ℕ) → Failure → Type 0
-IsOfWriting old new e = (e ≡ failure.Told fault.WriteDevice) ⊎ ((e ≡ failure.Told fault.Memory) × (new ≡ old))
+abbrev pub IsOfWriting : Printed → Printed → Failure → Type 0
+IsOfWriting old new e = IsOfOutput old new e ⊎ ((e ≡ failure.Told fault.Memory) × (new ≡ old))
 
 -- why these parts, which had got nothing, aren't filled, and nothing is printed
-abbrev pub IsOfFilling : Bool → Option (List ℕ) → (List Content → ℕ) → Range → List (Option (List ℕ)) → Option (List ℕ) → Option (List ℕ) → Failure → Type 0
+abbrev pub IsOfFilling : Bool → Option (List ℕ) → (List Content → ℕ) → Range → List (Option (List ℕ)) → Printed → Printed → Failure → Type 0
 IsOfFilling tells file part range told old new e = (empty : List (Option (List ℕ))) × (length empty ≡ length told) × (tells ≡ true → All (λ t. t ≡ Some []) empty)
     × IsOfParts part file range empty told e × (new ≡ old)
 
 -- why it isn't printed how many rows these parts have, which they have got all
-abbrev pub IsOfCounting : Bool → Option (List ℕ) → (List Content → ℕ) → Range → List (Option (List ℕ)) → Option (List ℕ) → Option (List ℕ) → Failure → Type 0
-IsOfCounting tells file part range told old new e = (rows : ℕ) × (tells ≡ true → AreParted file part range told rows) × IsOfWriting old new e
+abbrev pub IsOfCounting : Bool → Option (List ℕ) → (List Content → ℕ) → Range → List (Option (List ℕ)) → Printed → Printed → Failure → Type 0
+IsOfCounting tells file part range told old new e =
+    (rows : ℕ) × AreAllRows file range rows × (tells ≡ true → AreParted file part range told rows) × IsOfWriting old new e
 
 -- why a range isn't divided among so many parts of a folder: they can't be made, and there are none; or
 -- they aren't filled; or they are, and that isn't printed
-abbrev pub IsOfFolder : Bool → Option (List ℕ) → (List Content → ℕ) → Range → ℕ → List (Option (List ℕ)) → Option (List ℕ) → Option (List ℕ) → Failure → Type 0
+abbrev pub IsOfFolder : Bool → Option (List ℕ) → (List Content → ℕ) → Range → ℕ → List (Option (List ℕ)) → Printed → Printed → Failure → Type 0
 IsOfFolder tells file part range parts told old new e = ((e ≡ failure.Told fault.Memory) × (told ≡ []) × (new ≡ old))
     ⊎ ((length told ≡ parts) × (IsOfFilling tells file part range told old new e ⊎ IsOfCounting tells file part range told old new e))
 
 -- why the rows of a range that isn't divided aren't all read: one of them has an error, and nothing is
--- printed; or how many there are isn't printed
-abbrev pub IsOfReading : Option (List ℕ) → Range → Option (List ℕ) → Option (List ℕ) → Failure → Type 0
-IsOfReading file range old new e = (IsOfRows (λ _. 0) file range 1 e × (new ≡ old)) ⊎ IsOfWriting old new e
+-- printed; or how many there are isn't printed (there are no parts that could fail)
+abbrev pub IsOfReading : Option (List ℕ) → Range → Printed → Printed → Failure → Type 0
+IsOfReading file range old new e = (IsOfRows (λ _. 0) file range 0 e × (new ≡ old)) ⊎ IsOfWriting old new e
 
 -- the failure of an invalid NULL text, unless the file can't be read
 abbrev pub unlawful_null : Result Head Fault → Failure

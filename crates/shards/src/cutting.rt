@@ -1,7 +1,8 @@
 //! Where a file can be cut.
 
-ghost use Rattle.std.specs.Prelude.{◌≡◌, ◌<◌, ◌-◌, ◌^◌, IfErr, IfOk, IfSome, OnOk, string_bytes};
+ghost use Rattle.std.specs.Prelude.{◌≡◌, IfErr, IfOk, IfSome, OnOk, string_bytes};
 ghost use Rattle.shards.specs.Cuts.{HasCutFailure, HasCutLines, IsCutting, IsCutsFailure, place_lines};
+ghost use Rattle.shards.specs.Outputs.{printed_in};
 
 use crate::dividing::fault_of_division;
 use crate::failure::Failure;
@@ -9,9 +10,9 @@ use crate::line::Line;
 use crate::outputs::print_text;
 use crate::storage::{Storage, file_size, open_range, read_head};
 use rj_command::{Fault, Side, Strictness};
+use rj_csv_io::strict::Delimiter;
 use rj_csv_io::{Input, Output};
-use rj_divide::find_cuts;
-use rj_strict::Delimiter;
+use rj_shards::division::find_cuts;
 use std::alloc::{AllocError, Global};
 
 // The most bytes that are read before a place is looked for.
@@ -46,7 +47,6 @@ fn lines_of(alloc: Global, begin: u64, cuts: &[u64], end: u64) -> Result<String,
 // The lines of the places where the text that a device tells can be cut into ranges of about one
 // size.
 fn cut_lines<I: Input>(alloc: Global, input: &mut I, cut: &CutText) -> Result<String, Failure>
-    requires { I.count input.old < 2 ^ 64 - 1 }
     ensures lines { IfOk result (λ s. IfSome (I.tells input.old) (λ text. HasCutLines cut.now text (string_bytes s))) }
     ensures failure { IfErr result (λ e. IfSome (I.tells input.old) (λ text. HasCutFailure cut.now.side text e)) }
 {
@@ -76,9 +76,8 @@ pub(crate) fn print_cuts<S: Storage, O: Output>(
     ranges: u32,
     output: &mut O,
 ) -> Result<(), Failure>
-    requires { O.count output.old < 2 ^ 64 - 1 }
-    ensures cutting { OnOk result (IsCutting (S.holds storage.now) line.now ranges (O.told output.old) (O.told output.new)) }
-    ensures failure { IfErr result (IsCutsFailure (S.holds storage.now) line.now ranges (O.told output.old) (O.told output.new)) }
+    ensures cutting { OnOk result (IsCutting (S.holds storage.now) line.now ranges (printed_in O.told O.count output.old) (printed_in O.told O.count output.new)) }
+    ensures failure { IfErr result (IsCutsFailure (S.holds storage.now) line.now ranges (printed_in O.told O.count output.old) (printed_in O.told O.count output.new)) }
 {
     let side = line.side;
     let own = line.operand(side);

@@ -1,16 +1,16 @@
 //! Dividing a range of a file.
 
-ghost use Rattle.std.specs.Prelude.{◌≡◌, ◌⊎◌, ◌<◌, ◌≤◌, ◌-◌, ◌^◌, [], All, IfErr, IfOk, IfSome, IsTrue, Ok, OnOk, Some, length, map, string_bytes, true};
-ghost use Rattle.std.specs.Io.KnownBytes.{Appends};
+ghost use Rattle.std.specs.Prelude.{◌≡◌, ◌⊎◌, ◌<◌, ◌≤◌, ◌^◌, [], All, IfErr, IfOk, IfSome, IsTrue, Ok, OnOk, Some, length, map, string_bytes, true};
 ghost use Rattle.rj_columns.specs.Tables.{TableValue};
 ghost use Rattle.rj_csv_io.specs.Tables.{is_null_text};
 ghost use Rattle.rj_csv_io.specs.Typed.{null_texts};
-ghost use Rattle.rj_divide.specs.Divisions.{written_null};
-ghost use Rattle.rj_divide.specs.Headers.{HaveText};
-ghost use Rattle.rj_divide.specs.Texts.{HaveFirstRows, IsDivisionFault, IsTextDivided};
+ghost use Rattle.rj_shards.specs.Divisions.{counts_after, written_null};
+ghost use Rattle.rj_shards.specs.Headers.{HaveText};
+ghost use Rattle.rj_shards.specs.Texts.{HaveFirstRows, IsDivisionFault, IsTextDivided};
 ghost use Rattle.shards.specs.Plans.{HasSideHead, IsDivision, IsOwnFailure, IsRangeFailure, IsToldAfter, has_lawful_nulls, header_table, is_after_rows};
 ghost use Rattle.shards.specs.Lines.{operand_of};
-ghost use Rattle.shards.specs.Ranges.{AreCounted, AreDivided, AreParted, IsOfFolder, IsOfHeader, IsOfPartRows, IsOfParts, IsOfReading, IsOfWriting, counts_line, division_fault, mixed_shard, place_name, range_begin, range_begun, range_bytes, range_dividing, range_file, range_header, range_reading, unlawful_null};
+ghost use Rattle.shards.specs.Outputs.{IsPrinted, printed_in};
+ghost use Rattle.shards.specs.Ranges.{AreAllRows, AreCounted, AreDivided, AreParted, IsOfFolder, IsOfHeader, IsOfPartRows, IsOfParts, IsOfReading, IsOfRows, IsOfWriting, counts_line, division_fault, mixed_shard, place_name, range_begin, range_begun, range_bytes, range_dividing, range_file, range_header, range_reading, unlawful_null};
 
 use crate::failure::Failure;
 use crate::head::Head;
@@ -20,14 +20,14 @@ use crate::planning::{empty_table, other_side, plan};
 use crate::storage::{Storage, open_range, read_head};
 use rj_columns::{ColumnType, Table};
 use rj_command::{Strictness, fault_of_text};
+use rj_csv_io::strict::Delimiter;
 use rj_csv_io::{Input, Output};
-use rj_divide::{
+use rj_line::fault::{Fault, Side, fault_of_read};
+use rj_radix::Mixed;
+use rj_shards::division::{
     DivideRefused, Division, Reading, Route, divide, have_lawful_nulls, write_headers,
 };
-use rj_fault::{Fault, Side, fault_of_read};
-use rj_radix::Mixed;
 use rj_shards::{ShardRoute, Shards};
-use rj_strict::Delimiter;
 use std::alloc::{AllocError, Global};
 
 /// How many bytes of a file are read at once. With the rows in them and the texts that are made of
@@ -120,10 +120,9 @@ fn divide_input<I: Input, W: Route, O: Output>(
     requires outputs { length outputs.old ≡ W.count route.now }
     requires from { range.now.from ≤ 2 ^ 62 }
     requires null { IsTrue (is_null_text (written_null (null_texts range.now.nulls.now))) }
-    requires reads { I.count input.old < 2 ^ 64 - 1 }
-    requires writes { All (λ o. O.count o < 2 ^ 64 - 1) outputs.old }
     ensures divided { IfOk result (λ n. IfSome (I.tells input.old) (λ text. IsTextDivided (range_dividing (W.part route.now) range.now)
         (range_reading range.now.line.now.strict range.now.from) text (map O.told outputs.old) (map O.told outputs.new) n)) }
+    ensures writes { map O.count outputs.new ≡ counts_after result (map O.count outputs.old) }
     ensures begins { OnOk result ((t : TableValue) × (range_begun range.now ≡ Ok t)) }
 
     // where the header and the types go together, an error comes for this alone
@@ -159,10 +158,12 @@ fn divide_rows<S: Storage, W: Route, O: Output>(
     requires from { range.now.from ≤ 2 ^ 62 }
     requires null { IsTrue (is_null_text (written_null (null_texts range.now.nulls.now))) }
     requires table { range_begun range.now ≡ Ok range.now.own.now }
-    requires writes { All (λ o. O.count o < 2 ^ 64 - 1) outputs.old }
     ensures divided { IfOk result (λ n. IfSome (range_file (S.holds storage.now) range.now) (λ text. IsTextDivided (range_dividing (W.part route.now) range.now)
         (range_reading range.now.line.now.strict range.now.from) (range_bytes range.now text) (map O.told outputs.old) (map O.told outputs.new) n)) }
     ensures fault { IfErr result (IsOfPartRows (W.part route.now) (range_file (S.holds storage.now) range.now) range.now (map O.told outputs.old) (map O.told outputs.new)) }
+
+    // outputs that never fail are no reason for an error
+    ensures unwritten { ((o : O) → O.count o ≡ 0) → IfErr result (IsOfRows (W.part route.now) (range_file (S.holds storage.now) range.now) range.now 0) }
 {
     let side = range.line.side;
     let file = range.line.operand(side).file;
@@ -190,9 +191,8 @@ fn print_counts<O: Output>(
     header: u64,
     output: &mut O,
 ) -> Result<(), Failure>
-    requires { O.count output.old < 2 ^ 64 - 1 }
-    ensures printed { OnOk result (Appends (O.told output.old) (O.told output.new) (counts_line rows header)) }
-    ensures fault { IfErr result (IsOfWriting (O.told output.old) (O.told output.new)) }
+    ensures printed { OnOk result (IsPrinted (printed_in O.told O.count output.old) (printed_in O.told O.count output.new) (counts_line rows header)) }
+    ensures fault { IfErr result (IsOfWriting (printed_in O.told O.count output.old) (printed_in O.told O.count output.new)) }
 {
     let Ok(text) = counts_line(alloc, rows, header) else {
         return Err(Failure::Told(Fault::Memory));
@@ -206,10 +206,8 @@ fn put_headers<O: Output>(
     range: &Range<'_>,
     outputs: &mut [O],
 ) -> Result<u64, Failure>
-    requires { All (λ o. O.count o < 2 ^ 64 - 1) outputs.old }
     ensures told { OnOk result (HaveText (range_header range.now) (map O.told outputs.old) (map O.told outputs.new)) }
     ensures size { IfOk result (λ n. n ≡ length (range_header range.now)) }
-    ensures writes { OnOk result (All (λ o. O.count o < 2 ^ 64 - 1) outputs.new) }
     ensures fault { IfErr result (IsOfHeader range.now (map O.told outputs.old) (map O.told outputs.new)) }
 {
     let side = range.line.side;
@@ -233,9 +231,9 @@ fn fill_parts<S: Storage, W: Route, O: Output>(
     requires from { range.now.from ≤ 2 ^ 62 }
     requires null { IsTrue (is_null_text (written_null (null_texts range.now.nulls.now))) }
     requires table { range_begun range.now ≡ Ok range.now.own.now }
-    requires writes { All (λ o. O.count o < 2 ^ 64 - 1) outputs.old }
     ensures parted { IfOk result (λ p. All (λ o. O.told o ≡ Some []) outputs.old
         → AreParted (range_file (S.holds storage.now) range.now) (W.part route.now) range.now (map O.told outputs.new) p.0) }
+    ensures counted { IfOk result (λ p. AreAllRows (range_file (S.holds storage.now) range.now) range.now p.0) }
     ensures header { IfOk result (λ p. p.1 ≡ length (range_header range.now)) }
     ensures fault { IfErr result (IsOfParts (W.part route.now) (range_file (S.holds storage.now) range.now) range.now (map O.told outputs.old) (map O.told outputs.new)) }
 {
@@ -263,12 +261,11 @@ fn divide_among_parts<S: Storage, O: Output>(
     requires from { range.now.from ≤ 2 ^ 62 }
     requires null { IsTrue (is_null_text (written_null (null_texts range.now.nulls.now))) }
     requires table { range_begun range.now ≡ Ok range.now.own.now }
-    requires output { O.count output.old < 2 ^ 64 - 1 }
     ensures count { OnOk result.0 (length result.1.items ≡ plan.now.0.parts) }
-    ensures divided { OnOk result.0 (AreDivided (S.tells_parts storage.now) (range_file (S.holds storage.now) range.now) (mixed_shard plan.now.0.parts plan.now.1.items) range.now
-        (map S.Part.told result.1.items) (O.told output.old) (O.told output.new)) }
-    ensures fault { IfErr result.0 (IsOfFolder (S.tells_parts storage.now) (range_file (S.holds storage.now) range.now) (mixed_shard plan.now.0.parts plan.now.1.items) range.now
-        plan.now.0.parts (map S.Part.told result.1.items) (O.told output.old) (O.told output.new)) }
+    ensures divided { OnOk result.0 (AreDivided (S.tells_parts storage.now folder.now) (range_file (S.holds storage.now) range.now) (mixed_shard plan.now.0.parts plan.now.1.items) range.now
+        (map S.Part.told result.1.items) (printed_in O.told O.count output.old) (printed_in O.told O.count output.new)) }
+    ensures fault { IfErr result.0 (IsOfFolder (S.tells_parts storage.now folder.now) (range_file (S.holds storage.now) range.now) (mixed_shard plan.now.0.parts plan.now.1.items) range.now
+        plan.now.0.parts (map S.Part.told result.1.items) (printed_in O.told O.count output.old) (printed_in O.told O.count output.new)) }
 {
     let (shards, columns) = plan;
     let route = ShardRoute {
@@ -300,9 +297,8 @@ fn look_at_rows<S: Storage, O: Output>(
     requires from { range.now.from ≤ 2 ^ 62 }
     requires null { IsTrue (is_null_text (written_null (null_texts range.now.nulls.now))) }
     requires table { range_begun range.now ≡ Ok range.now.own.now }
-    requires output { O.count output.old < 2 ^ 64 - 1 }
-    ensures { ((result ≡ failure) × AreCounted (range_file (S.holds storage.now) range.now) range.now (O.told output.old) (O.told output.new))
-        ⊎ IsOfReading (range_file (S.holds storage.now) range.now) range.now (O.told output.old) (O.told output.new) result }
+    ensures { ((result ≡ failure) × AreCounted (range_file (S.holds storage.now) range.now) range.now (printed_in O.told O.count output.old) (printed_in O.told O.count output.new))
+        ⊎ IsOfReading (range_file (S.holds storage.now) range.now) range.now (printed_in O.told O.count output.old) (printed_in O.told O.count output.new) result }
 {
     let mut sink = [NullSink];
     match divide_rows(alloc, storage, range, &OnePart, sink.as_mut_slice()) {
@@ -337,9 +333,8 @@ fn failure_of_range<S: Storage, O: Output>(
     requires from { range.now.from ≤ 2 ^ 62 }
     requires null { IsTrue (is_null_text (written_null (null_texts range.now.nulls.now))) }
     requires table { range_begun range.now ≡ Ok range.now.own.now }
-    requires output { O.count output.old < 2 ^ 64 - 1 }
-    ensures { ((result ≡ failure) × IsToldAfter (range_file (S.holds storage.now) range.now) range.now (O.told output.old) (O.told output.new) failure)
-        ⊎ IsOfReading (range_file (S.holds storage.now) range.now) range.now (O.told output.old) (O.told output.new) result }
+    ensures { ((result ≡ failure) × IsToldAfter (range_file (S.holds storage.now) range.now) range.now (printed_in O.told O.count output.old) (printed_in O.told O.count output.new) failure)
+        ⊎ IsOfReading (range_file (S.holds storage.now) range.now) range.now (printed_in O.told O.count output.old) (printed_in O.told O.count output.new) result }
 {
     if !is_after_rows(&failure) {
         return failure;
@@ -408,9 +403,8 @@ pub(crate) fn divide_range<S: Storage, O: Output>(
     folder: &str,
     output: &mut O,
 ) -> (Result<(), Failure>, Vec<S::Part>)
-    requires { O.count output.old < 2 ^ 64 - 1 }
-    ensures division { OnOk result.0 (IsDivision (S.holds storage.now) (S.tells_parts storage.now) line.now bounds (map S.Part.told result.1.items) (O.told output.old) (O.told output.new)) }
-    ensures failure { IfErr result.0 (IsRangeFailure (S.holds storage.now) (S.tells_parts storage.now) line.now bounds (map S.Part.told result.1.items) (O.told output.old) (O.told output.new)) }
+    ensures division { OnOk result.0 (IsDivision (S.holds storage.now) (S.tells_parts storage.now folder.now) line.now bounds (map S.Part.told result.1.items) (printed_in O.told O.count output.old) (printed_in O.told O.count output.new)) }
+    ensures failure { IfErr result.0 (IsRangeFailure (S.holds storage.now) (S.tells_parts storage.now folder.now) line.now bounds (map S.Part.told result.1.items) (printed_in O.told O.count output.old) (printed_in O.told O.count output.new)) }
 {
     let (head, table, kinds) = match read_own(alloc, storage, line) {
         Ok(own) => own,

@@ -1,16 +1,20 @@
 //! `--explain`: the lines that are added after the line of an error.
 
-ghost use Rattle.std.specs.Prelude.{◌≡◌, ◌⊎◌, IfOk, None, false, map, option_map, string_bytes};
+ghost use Rattle.std.specs.Prelude.{◌≡◌, ◌≢◌, ◌⊎◌, IfOk, IfSome, None, false, map, option_map, string_bytes};
 ghost use Rattle.std.specs.List.{list_any};
-ghost use Rattle.rj_fault.specs.Faults.{IsAskedFor};
+ghost use Rattle.rj_line.specs.Faults.{IsAskedFor};
+ghost use Rattle.rj_line.specs.declared.fault.Fault.{Fault};
+ghost use Rattle.rj_line.specs.Line.{IsLineFault, IsLineOf};
 ghost use Rattle.shards.specs.Explained.{AreHeadersTold, AreLinesOf, has_value, is_explain, is_of_headers, is_own_option, without_own};
 ghost use Rattle.shards.specs.Failures.{clap_error_of, exit_of, unwritten};
+ghost use Rattle.shards.specs.Heads.{Begins};
+ghost use Rattle.shards.specs.Storages.{MayFail};
 
 use crate::failure::Failure;
 use crate::storage::{Storage, read_beginning};
-use rj_command::{read_line, tell};
+use rj_command::{Line, read_line, tell};
 use rj_explain::{Inputs, explain, explain_words};
-use rj_fault::{Fault, Side};
+use rj_line::fault::{Fault, Side};
 use std::alloc::{AllocError, Global};
 
 /// Why there is no output, and the lines that explain it.
@@ -34,7 +38,7 @@ impl From<Failure> for ExplainedFailure {
 }
 
 impl From<AllocError> for ExplainedFailure {
-    ghost use Rattle.rj_fault.specs.declared.fault.Fault.TheVariants.{Memory};
+    ghost use Rattle.rj_line.specs.declared.fault.Fault.TheVariants.{Memory};
     ghost use Rattle.shards.specs.declared.failure.Failure.TheVariants.{Told};
 
     ghost from_gives = { λ _ e. e.failure ≡ Told Memory };
@@ -101,6 +105,39 @@ fn is_of_headers(fault: &Fault) -> bool
     }
 }
 
+// The line of a join in one go that these words are, if they are one.
+fn line_of_join<'w>(alloc: Global, words: &'w [&'w str]) -> Result<Option<Line<'w>>, AllocError>
+    ensures line { IfOk result (λ o. IfSome o (IsLineOf 1 (map (λ w. w.now) words.entry.now))) }
+    ensures none { IfOk result (λ o. o ≡ None → (f : Fault) × (f ≢ Fault.Memory) × IsLineFault (map (λ w. w.now) words.entry.now) f) }
+{
+    match read_line(alloc, words, 1) {
+        Ok(line) => Ok(Some(line)),
+        Err(fault) => match fault {
+            Fault::Memory => Err(AllocError),
+            _ => Ok(None),
+        },
+    }
+}
+
+// The first bytes of a side's file, if it can be read.
+fn beginning_of<S: Storage>(
+    alloc: Global,
+    storage: &S,
+    name: &str,
+    side: Side,
+) -> Result<Option<Vec<u8>>, AllocError>
+    ensures beginning { IfOk result (λ o. IfSome o (λ v. Begins (S.holds storage.now name.now) v.items)) }
+    ensures none { IfOk result (λ o. o ≡ None → MayFail S.Reader.count (S.opens storage.now)) }
+{
+    match read_beginning(alloc, storage, name, side) {
+        Ok(bytes) => Ok(Some(bytes)),
+        Err(fault) => match fault {
+            Fault::Memory => Err(AllocError),
+            _ => Ok(None),
+        },
+    }
+}
+
 // The lines of an error of headers or of the clause, for which the files' beginnings are enough.
 fn header_lines<S: Storage>(
     alloc: Global,
@@ -108,16 +145,16 @@ fn header_lines<S: Storage>(
     words: &[&str],
     fault: &Fault,
 ) -> Result<String, AllocError>
-    ensures { IfOk result (λ s. AreHeadersTold (S.holds storage.now) fault.now (map (λ w. w.now) words.now) (string_bytes s)) }
+    ensures { IfOk result (λ s. AreHeadersTold (S.holds storage.now) (MayFail S.Reader.count (S.opens storage.now)) fault.now (map (λ w. w.now) words.now) (string_bytes s)) }
 {
     let words = words_of_join(alloc, words)?;
-    let Ok(line) = read_line(alloc, words.as_slice(), 1) else {
+    let Some(line) = line_of_join(alloc, words.as_slice())? else {
         return Ok(String::new(alloc));
     };
-    let (Ok(left), Ok(right)) = (
-        read_beginning(alloc, storage, line.left, Side::Left),
-        read_beginning(alloc, storage, line.right, Side::Right),
-    ) else {
+    let Some(left) = beginning_of(alloc, storage, line.left, Side::Left)? else {
+        return Ok(String::new(alloc));
+    };
+    let Some(right) = beginning_of(alloc, storage, line.right, Side::Right)? else {
         return Ok(String::new(alloc));
     };
     let inputs = Inputs {
@@ -136,7 +173,7 @@ fn lines_of<S: Storage>(
     words: &[&str],
     failure: &Failure,
 ) -> Result<Option<String>, AllocError>
-    ensures { IfOk result (λ o. AreLinesOf (S.holds storage.now) failure.now (map (λ w. w.now) words.now) (option_map string_bytes o)) }
+    ensures { IfOk result (λ o. AreLinesOf (S.holds storage.now) (MayFail S.Reader.count (S.opens storage.now)) failure.now (map (λ w. w.now) words.now) (option_map string_bytes o)) }
 {
     match failure {
         Failure::Told(fault) if is_of_headers(fault) => {
@@ -163,7 +200,7 @@ pub(crate) fn explained<S: Storage>(
 ) -> ExplainedFailure
     ensures failure { result.failure ≡ failure }
     ensures unasked { list_any (λ w. is_explain w.now) words.now ≡ false → result.lines ≡ None }
-    ensures lines { (result.lines ≡ None) ⊎ AreLinesOf (S.holds storage.now) failure (map (λ w. w.now) words.now) (option_map string_bytes result.lines) }
+    ensures lines { (result.lines ≡ None) ⊎ AreLinesOf (S.holds storage.now) (MayFail S.Reader.count (S.opens storage.now)) failure (map (λ w. w.now) words.now) (option_map string_bytes result.lines) }
 {
     if !is_asked(words) {
         return ExplainedFailure::from(failure);

@@ -48,7 +48,7 @@ impl From<Fault> for Failure {
 }
 
 impl From<AllocError> for Failure {
-    ghost use Rattle.rj_fault.specs.declared.fault.Fault.TheVariants.{Memory};
+    ghost use Rattle.rj_line.specs.declared.fault.Fault.TheVariants.{Memory};
     ghost use Rattle.shards.specs.declared.failure.Failure.TheVariants.{Told};
 
     ghost from_gives = { λ _ failure. failure ≡ Told Memory };

@@ -1,11 +1,10 @@
 //! The files of the system.
 
 ghost use Rattle.std.specs.Prelude.{◌≡◌, ◌<◌, ◌-◌, ◌^◌, All, IfOk, length};
-ghost use Rattle.rj_divide.specs.Stored.{put_failures_of};
 
 use crate::storage::Storage;
 use rj_csv_io::CountedReader;
-use rj_divide::{PartFile, StoredPart};
+use rj_shards::division::{PartFile, StoredPart};
 use std::alloc::AllocError;
 use std::fs::{self, Files, OpenFile};
 use std::io::{self, Read, Seek, SeekFrom, Take};
@@ -24,7 +23,6 @@ fn part_files<'r, R: Files + AllocGlobal>(
     parts: u32,
 ) -> Result<Vec<StoredPart<PartFile<'r, R>>>, AllocError>
     ensures count { IfOk result (λ v. length v.items ≡ parts) }
-    ensures writes { IfOk result (λ v. All (λ f. put_failures_of f < 2 ^ 64 - 1) v.items) }
 {
     let _ = fs::create_dir_all(rt, folder);
     let mut files = Vec::new(rt.alloc());

@@ -3,15 +3,15 @@
 ghost use Rattle.std.specs.Prelude.{◌≡◌, ◌≢◌, ◌≤◌, ◌+◌, ◌++◌, ◌∷◌, [], ℕ, List, Bool, None, IfErr, IfOk, IfSome, MatchOption, false, length, true};
 ghost use Rattle.csv.specs.Reading.{strip_bom};
 ghost use Rattle.rj_csv_io.specs.Pieces.{names_in};
-ghost use Rattle.rj_strict.specs.Grammar.{Derives, File, records_of};
-ghost use Rattle.rj_strict.specs.Reading.{body_of};
-ghost use Rattle.rj_strict.specs.declared.header.Header.TheVariants.{First};
+ghost use Rattle.rj_csv_io.specs.Grammar.{Derives, File, records_of};
+ghost use Rattle.rj_csv_io.specs.StrictReading.{body_of};
+ghost use Rattle.rj_csv_io.specs.declared.strict.header.HeaderPlace.TheVariants.{First};
 ghost use Rattle.shards.specs.Heads.{Continues, HasNoFeed, IsFeed, IsFirstLine, IsOfFirstLine, HasNoLine};
 
 use crate::head::Head;
 use rj_command::{Fault, Side, fault_of_text};
+use rj_csv_io::strict::{Delimiter, check, quote_empty_lines};
 use rj_csv_io::{Header, without_bom};
-use rj_strict::{Delimiter, check, quote_empty_lines, reads_quoted_records};
 use std::alloc::{AllocError, Global};
 
 // Where the first line of a text ends, if it does: after the first line feed outside quotes. Each
@@ -53,7 +53,6 @@ fn header_of(alloc: Global, line: &[u8], side: Side, delimiter: Delimiter) -> Re
     ensures fault { IfErr result (λ f. f ≢ Fault.Memory → (f ≡ Fault.NoHeader side) × ((full : Bool) (file : File)
         → Derives delimiter First full (body_of First line.now) file → records_of file ≡ [])) }
 {
-    reads_quoted_records();
     let _byte = delimiter.byte();
     let Ok(quoted) = quote_empty_lines(alloc, line, delimiter) else {
         return Err(Fault::Memory);
@@ -91,7 +90,7 @@ pub(crate) fn head_of_lines(
     };
     // (with its byte order mark, since another one after it is part of a name)
     let line = &bytes[..mark.saturating_add(length).min(bytes.len())];
-    if let Err(fault) = check(line, delimiter, rj_strict::Header::First, full) {
+    if let Err(fault) = check(line, delimiter, rj_csv_io::strict::HeaderPlace::First, full) {
         return Err(fault_of_text(side, fault));
     }
     let header = header_of(alloc, line, side, delimiter)?;

@@ -1,13 +1,13 @@
 //! The header of a file, of which a device tells the bytes.
 
-ghost use Rattle.std.specs.Prelude.{◌≡◌, ◌<◌, ◌-◌, ◌^◌, ◌++◌, ◌≢◌, ℕ, List, None, Some, IfErr, IfOk, IfSome, false, true};
+ghost use Rattle.std.specs.Prelude.{◌≡◌, ◌++◌, ◌≢◌, ℕ, List, None, Some, IfErr, IfOk, IfSome, false, true};
 ghost use Rattle.rj_line.specs.declared.request.Strictness.TheVariants.{Off};
 ghost use Rattle.shards.specs.Heads.{Continues, HasHead, HasHeadFault, IsFirstRecord, IsHeadFault, IsHeadOf};
 
 use crate::first_line::head_of_lines;
 use rj_command::{Fault, Side, Strictness, fault_of_read};
+use rj_csv_io::strict::Delimiter;
 use rj_csv_io::{Header, Input, last_cut, read_up_to, without_bom};
-use rj_strict::Delimiter;
 use std::alloc::Global;
 
 // The bytes that are read from a file for its header at first.
@@ -84,7 +84,6 @@ pub(crate) fn read_head_of<I: Input>(
     delimiter: Delimiter,
     strict: Strictness,
 ) -> Result<Head, Fault>
-    requires { I.count input.old < 2 ^ 64 - 1 }
     ensures head { IfOk result (HasHead strict delimiter (I.tells input.old)) }
     ensures fault { IfErr result (HasHeadFault strict delimiter side (I.tells input.old)) }
 {

@@ -11,9 +11,9 @@ use crate::options::line_command;
 use clap::ArgMatches;
 use clap::error::ErrorKind;
 use rj_command::{Strictness, TypeEntry, read_nulls, read_types};
-use rj_fault::{Fault, Side};
+use rj_csv_io::strict::Delimiter;
 use rj_line::delimiter_of;
-use rj_strict::Delimiter;
+use rj_line::fault::{Fault, Side};
 use std::alloc::Global;
 
 /// One of the two tables.

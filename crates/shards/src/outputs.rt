@@ -1,13 +1,13 @@
 //! Where rows and lines go.
 
-ghost use Rattle.std.specs.Prelude.{◌≡◌, ◌<◌, ◌-◌, ◌^◌, IfErr, OnOk};
-ghost use Rattle.std.specs.Io.KnownBytes.{Appends};
+ghost use Rattle.std.specs.Prelude.{◌≡◌, IfErr, OnOk};
+ghost use Rattle.shards.specs.Outputs.{IsOfOutput, IsPrinted, printed_in};
 
 use crate::failure::Failure;
 use rj_columns::Table;
 use rj_csv_io::{Failed, Output};
-use rj_divide::Route;
-use rj_fault::Fault;
+use rj_line::fault::Fault;
+use rj_shards::division::Route;
 
 /// One part, to which all rows go.
 #[derive(Clone, Copy)]
@@ -51,9 +51,8 @@ impl Output for NullSink {
 ///
 /// `WriteDevice`.
 pub(crate) fn print_text<O: Output>(output: &mut O, text: &str) -> Result<(), Failure>
-    requires { O.count output.old < 2 ^ 64 - 1 }
-    ensures printed { OnOk result (Appends (O.told output.old) (O.told output.new) text.now) }
-    ensures fault { IfErr result (λ e. e ≡ Failure.Told Fault.WriteDevice) }
+    ensures printed { OnOk result (IsPrinted (printed_in O.told O.count output.old) (printed_in O.told O.count output.new) text.now) }
+    ensures fault { IfErr result (IsOfOutput (printed_in O.told O.count output.old) (printed_in O.told O.count output.new)) }
 {
     match output.put(text.as_bytes()) {
         Ok(()) => Ok(()),

@@ -12,7 +12,7 @@ use crate::storage::{Storage, read_head};
 use rj_columns::Table;
 use rj_command::{bind_clause, types_of_header};
 use rj_condition::{BoundJoin, split};
-use rj_fault::{Fault, Side, fault_of_read};
+use rj_line::fault::{Fault, Side, fault_of_read};
 use rj_shards::Shards;
 use std::alloc::Global;
 

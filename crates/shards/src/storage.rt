@@ -1,13 +1,15 @@
 //! The files that are read and written, by their names.
 
-ghost use Rattle.std.specs.Prelude.{◌≡◌, ◌<◌, ◌-◌, ◌^◌, [], ℕ, All, Bool, IfErr, IfOk, IfSome, List, None, Option, Some, false, length, true};
+ghost use Rattle.std.specs.Prelude.{◌≡◌, ◌≢◌, ◌<◌, ◌-◌, ◌^◌, [], ℕ, All, Bool, IfErr, IfOk, IfSome, List, None, Option, Some, false, length, true};
+ghost use Rattle.std.specs.IoError.{error_kind};
 ghost use Rattle.shards.specs.Heads.{Begins, HasHead, HasHeadFault};
 ghost use Rattle.shards.specs.Ranges.{IsFileFault, bytes_between};
+ghost use Rattle.shards.specs.Storages.{IsUnfailing};
 
 use crate::head::{Head, read_head_of};
 use rj_command::{Fault, Side, Strictness, fault_of_read};
+use rj_csv_io::strict::Delimiter;
 use rj_csv_io::{Input, Output, read_up_to};
-use rj_strict::Delimiter;
 use std::alloc::{AllocError, Global};
 use std::io::{self, ErrorKind};
 
@@ -25,8 +27,11 @@ pub(crate) trait Storage {
     // The bytes of the file of a name, if they are told.
     ghost holds: { Self → List ℕ → Option (List ℕ) } = { λ _ _. None };
 
-    // Whether the parts tell what they got.
-    ghost tells_parts: { Self → Bool } = { λ _. false };
+    // Whether the file of this name is known to be there, so that only memory can lack to open it.
+    ghost opens: { Self → List ℕ → Bool } = { λ _ _. false };
+
+    // Whether the parts of this folder tell what they got.
+    ghost tells_parts: { Self → List ℕ → Bool } = { λ _ _. false };
 
     /// Opens the file of this name.
     ///
@@ -35,7 +40,8 @@ pub(crate) trait Storage {
     /// Why it can't be opened: `OutOfMemory` if memory ran out.
     fn open(&self, name: &str) -> io::Result<Self::Reader>
         ensures bytes { IfOk result (λ r. IfSome (holds self.now name.now) (λ text. Self.Reader.tells r ≡ Some text)) }
-        ensures unfailed { IfOk result (λ r. Self.Reader.count r ≡ 0) };
+        ensures unfailed { IfOk result (λ r. Self.Reader.count r ≡ 0) }
+        ensures opened { opens self.now name.now ≡ true → IfErr result (λ e. error_kind e ≡ ErrorKind.OutOfMemory) };
 
     /// Opens the file of this name from one place up to another, or up to its end.
     ///
@@ -44,7 +50,8 @@ pub(crate) trait Storage {
     /// Those of [`Storage::open`].
     fn open_range(&self, name: &str, from: u64, to: Option<u64>) -> io::Result<Self::Reader>
         ensures bytes { IfOk result (λ r. IfSome (holds self.now name.now) (λ text. Self.Reader.tells r ≡ Some (bytes_between from to text))) }
-        ensures unfailed { IfOk result (λ r. Self.Reader.count r ≡ 0) };
+        ensures unfailed { IfOk result (λ r. Self.Reader.count r ≡ 0) }
+        ensures opened { opens self.now name.now ≡ true → IfErr result (λ e. error_kind e ≡ ErrorKind.OutOfMemory) };
 
     /// How many bytes the file of this name has.
     ///
@@ -52,7 +59,8 @@ pub(crate) trait Storage {
     ///
     /// Those of [`Storage::open`].
     fn size(&self, name: &str) -> io::Result<u64>
-        ensures { IfOk result (λ n. IfSome (holds self.now name.now) (λ text. n ≡ length text)) };
+        ensures size { IfOk result (λ n. IfSome (holds self.now name.now) (λ text. n ≡ length text)) }
+        ensures opened { opens self.now name.now ≡ true → IfErr result (λ e. error_kind e ≡ ErrorKind.OutOfMemory) };
 
     /// This many parts in a folder, which is made if it doesn't exist. Nothing was put to them.
     ///
@@ -62,13 +70,14 @@ pub(crate) trait Storage {
     /// is put to a part.
     fn parts(&self, folder: &str, count: u32) -> Result<Vec<Self::Part>, AllocError>
         ensures count { IfOk result (λ v. length v.items ≡ count) }
-        ensures empty { IfOk result (λ v. tells_parts self.now ≡ true → All (λ p. Self.Part.told p ≡ Some []) v.items) }
-        ensures writes { IfOk result (λ v. All (λ p. Self.Part.count p < 2 ^ 64 - 1) v.items) };
+        ensures empty { IfOk result (λ v. tells_parts self.now folder.now ≡ true → All (λ p. Self.Part.told p ≡ Some []) v.items) };
 }
 
 // The error of a side's file that can't be opened.
 fn fault_of_open(side: Side, error: &io::Error) -> Fault
-    ensures { IsFileFault side result }
+    ensures memory { error_kind error.now ≡ ErrorKind.OutOfMemory → result ≡ Fault.Memory }
+    ensures device { error_kind error.now ≢ ErrorKind.OutOfMemory → result ≡ Fault.ReadDevice side }
+    ensures fault { IsFileFault side result }
 {
     match error.kind() {
         ErrorKind::OutOfMemory => Fault::Memory,
@@ -85,6 +94,7 @@ pub(crate) fn open_file<S: Storage>(storage: &S, name: &str, side: Side) -> Resu
     ensures bytes { IfOk result (λ r. IfSome (S.holds storage.now name.now) (λ text. S.Reader.tells r ≡ Some text)) }
     ensures unfailed { IfOk result (λ r. S.Reader.count r ≡ 0) }
     ensures fault { IfErr result (IsFileFault side) }
+    ensures unfailing { IsUnfailing S.Reader.count (S.opens storage.now) → IfErr result (λ f. f ≡ Fault.Memory) }
 {
     match storage.open(name) {
         Ok(reader) => Ok(reader),
@@ -107,6 +117,7 @@ pub(crate) fn open_range<S: Storage>(
     ensures bytes { IfOk result (λ r. IfSome (S.holds storage.now name.now) (λ text. S.Reader.tells r ≡ Some (bytes_between from to text))) }
     ensures unfailed { IfOk result (λ r. S.Reader.count r ≡ 0) }
     ensures fault { IfErr result (IsFileFault side) }
+    ensures unfailing { IsUnfailing S.Reader.count (S.opens storage.now) → IfErr result (λ f. f ≡ Fault.Memory) }
 {
     match storage.open_range(name, from, to) {
         Ok(reader) => Ok(reader),
@@ -122,6 +133,7 @@ pub(crate) fn open_range<S: Storage>(
 pub(crate) fn file_size<S: Storage>(storage: &S, name: &str, side: Side) -> Result<u64, Fault>
     ensures size { IfOk result (λ n. IfSome (S.holds storage.now name.now) (λ text. n ≡ length text)) }
     ensures fault { IfErr result (IsFileFault side) }
+    ensures unfailing { IsUnfailing S.Reader.count (S.opens storage.now) → IfErr result (λ f. f ≡ Fault.Memory) }
 {
     match storage.size(name) {
         Ok(size) => Ok(size),
@@ -164,6 +176,7 @@ pub(crate) fn read_beginning<S: Storage>(
 ) -> Result<Vec<u8>, Fault>
     ensures beginning { IfOk result (λ v. Begins (S.holds storage.now name.now) v.items) }
     ensures fault { IfErr result (IsFileFault side) }
+    ensures unfailing { IsUnfailing S.Reader.count (S.opens storage.now) → IfErr result (λ f. f ≡ Fault.Memory) }
 {
     let mut input = match open_file(storage, name, side) {
         Ok(input) => input,
@@ -171,7 +184,7 @@ pub(crate) fn read_beginning<S: Storage>(
     };
     let mut bytes = Vec::new(alloc);
     match read_up_to(&mut input, &mut bytes, BEGINNING) {
-        Ok(_) => Ok(bytes),
+        Ok(_is_whole) => Ok(bytes),
         Err(refused) => Err(fault_of_read(side, refused)),
     }
 }

@@ -1,8 +1,9 @@
 //! What the words of the command line ask for is done.
 
-ghost use Rattle.std.specs.Prelude.{◌≡◌, ◌<◌, ◌-◌, ◌^◌, Err, IfErr, OnOk, map};
-ghost use Rattle.rj_fault.specs.declared.fault.Fault.TheVariants.{Memory};
+ghost use Rattle.std.specs.Prelude.{◌≡◌, Err, IfErr, OnOk, map};
+ghost use Rattle.rj_line.specs.declared.fault.Fault.TheVariants.{Memory};
 ghost use Rattle.shards.specs.Lines.{IsShardsLine};
+ghost use Rattle.shards.specs.Outputs.{printed_in};
 ghost use Rattle.shards.specs.Works.{IsFailure, IsWorkDone};
 ghost use Rattle.shards.specs.declared.line.Line.{Line};
 
@@ -29,12 +30,11 @@ pub(crate) fn divide_words<S: Storage, O: Output>(
     words: &[&str],
     output: &mut O,
 ) -> (Result<(), Failure>, Vec<S::Part>)
-    requires { O.count output.old < 2 ^ 64 - 1 }
     ensures done { OnOk result.0 (IsWorkDone (S.holds storage.now) (S.tells_parts storage.now) (map (λ w. w.now) words.now)
-        (map S.Part.told result.1.items) (O.told output.old) (O.told output.new)) }
+        (map S.Part.told result.1.items) (printed_in O.told O.count output.old) (printed_in O.told O.count output.new)) }
     ensures failure { IfErr result.0 (IsFailure (S.holds storage.now) (S.tells_parts storage.now) (map (λ w. w.now) words.now)
-        (map S.Part.told result.1.items) (O.told output.old) (O.told output.new)) }
-    ensures memory { result.0 ≡ Err (Failure.Told Memory) → O.told output.new ≡ O.told output.old }
+        (map S.Part.told result.1.items) (printed_in O.told O.count output.old) (printed_in O.told O.count output.new)) }
+    ensures memory { result.0 ≡ Err (Failure.Told Memory) → printed_in O.told O.count output.new ≡ printed_in O.told O.count output.old }
     ensures unchanged { ((line : Line) → IsShardsLine (map (λ w. w.now) words.now) line → ⊥) → output.new ≡ output.old }
 {
     let line = match read_line(alloc, words) {

@@ -17,8 +17,8 @@ use crate::join::types::types_of;
 use crate::join::undeclared::{is_open, is_undeclared};
 use rj_columns::{Cell, Table};
 use rj_condition::split;
-use rj_fault::Side;
 use rj_line::Request;
+use rj_line::fault::Side;
 use std::alloc::{AllocError, Global};
 
 // Whether a cell is NULL, or a text of this spelling.

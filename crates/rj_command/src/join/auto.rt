@@ -11,8 +11,8 @@ ghost use Rattle.rj_condition.specs.Bound.{bound};
 ghost use Rattle.rj_condition.specs.Clauses.{HasClause};
 ghost use Rattle.rj_condition.specs.Undeclared.{undeclared_in};
 ghost use Rattle.rj_condition.specs.declared.tree.Clause.{Clause};
-ghost use Rattle.rj_strict.specs.Reading.{config_of};
-ghost use Rattle.rj_types.specs.declared.entry.TypeEntry.{TypeEntry};
+ghost use Rattle.rj_csv_io.specs.StrictReading.{config_of};
+ghost use Rattle.rj_settings.specs.declared.types.entry.TypeEntry.{TypeEntry};
 ghost use Rattle.rj_command.specs.Auto as auto;
 ghost use Rattle.rj_command.specs.Auto.{AreKinds, AreKindsIn, AreStrictKinds, AreSuggestedEntries, HasFurther, IsBound, IsCompleted, IsNumberTable, TakesTypes, entries_from, entry_at, entry_for, table_of};
 ghost use Rattle.rj_command.specs.Sides.{delimiter_of, has_lawful_nulls, nulls_of};
@@ -24,14 +24,14 @@ use crate::join::undeclared::{is_open, is_undeclared};
 use rj_columns::{ColumnType, Table};
 use rj_condition::{
     BindRefused, BoundJoin, Clause, Columns, Name, ParseRefused, Word, bind, first_undeclared,
-    one_clause, parse,
+    parse,
 };
+use rj_csv_io::strict::{HeaderPlace as Grammar, check, quote_empty_lines};
 use rj_csv_io::{Header, InputFormat, ReadRefused, without_bom};
-use rj_fault::Side;
+use rj_line::fault::Side;
+use rj_line::suggest::suggested_kinds;
 use rj_line::{Request, Strictness};
-use rj_strict::{Header as Grammar, check, quote_empty_lines, reads_quoted_records};
-use rj_suggest::suggested_kinds;
-use rj_types::{Label, TypeEntry, is_open as says_not_all};
+use rj_settings::types::{Label, TypeEntry, is_open as says_not_all};
 use std::alloc::{AllocError, Global};
 
 // The types that the cells of a text suggest for its columns; none if the text has an error.
@@ -68,7 +68,6 @@ fn kinds_of_strict_text(
         ((kinds : List ColumnType) → AreStrictKinds full request.now side text.now kinds → ⊥)
         (λ v. AreStrictKinds full request.now side text.now v.items)) }
 {
-    reads_quoted_records();
     let delimiter = delimiter_of(request, side);
     if check(text, delimiter, Grammar::First, full).is_err() {
         return Ok(None);
@@ -397,7 +396,6 @@ fn is_bound(
     ensures bound { IfOk result (λ b. b ≡ true → IsBound left.now right.now request.now) }
     ensures unbound { IfOk result (λ b. b ≡ false → IsBound left.now right.now request.now → ⊥) }
 {
-    one_clause();
     let Some(clause) = clause_of(alloc, request.clause)? else {
         return Ok(false);
     };

@@ -11,7 +11,7 @@ ghost use Rattle.rj_command.specs.Prepared.{IsOutcome};
 use crate::join::early::early_excess;
 use crate::join::operands::Operands;
 use rj_engine::{Gate, Joined, is_as_expected, run_join};
-use rj_fault::Fault;
+use rj_line::fault::Fault;
 use rj_line::{Hash, Request};
 use rj_radix::{Mixed, Plain};
 use std::alloc::{AllocError, Global};

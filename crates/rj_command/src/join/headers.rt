@@ -9,8 +9,8 @@ use crate::join::nulls::delimiter_of;
 use crate::join::types::{types_of, types_of_header};
 use rj_columns::Table;
 use rj_csv_io::{Header, without_bom};
-use rj_fault::{Fault, Side, fault_of_read};
 use rj_line::Request;
+use rj_line::fault::{Fault, Side, fault_of_read};
 use std::alloc::{AllocError, Global};
 
 // The table without rows of a header of a side, or its error.

@@ -7,9 +7,9 @@ ghost use Rattle.rj_command.specs.Operands.{HasNames, IsNameFault};
 ghost use Rattle.rj_command.specs.Runs.{AreNames};
 
 use crate::join::operands::Operands;
-use rj_engine::{NamingRefused, chosen_names, chosen_names_are_lawful};
-use rj_fault::Fault;
+use rj_engine::{NamingRefused, chosen_names};
 use rj_line::Request;
+use rj_line::fault::Fault;
 use std::alloc::Global;
 
 fn fault_of_naming(refused: NamingRefused) -> Fault
@@ -33,7 +33,6 @@ pub(crate) fn names_of(
     ensures names { IfOk result (λ v. AreNames request.now operands.now.join operands.now.left operands.now.right (map string_bytes v.items)) }
     ensures fault { IfErr result (λ f. (f ≡ Fault.Memory) ⊎ IsNameFault request.now operands.now.join operands.now.left operands.now.right f) }
 {
-    chosen_names_are_lawful();
     let (left, right) = (&operands.left, &operands.right);
     let _columns = (left.columns(), right.columns());
     match chosen_names(alloc, left, right, &operands.join, &request.choice) {

@@ -2,13 +2,13 @@
 
 ghost use Rattle.std.specs.Prelude.{◌≡◌, true};
 ghost use Rattle.rj_csv_io.specs.Typed.{null_texts};
-ghost use Rattle.rj_strict.specs.Grammar.{may_delimit};
+ghost use Rattle.rj_csv_io.specs.Grammar.{may_delimit};
 ghost use Rattle.rj_command.specs.Sides.{delimiter_of, has_lawful_nulls, nulls_of};
 
+use rj_csv_io::strict::Delimiter;
 use rj_csv_io::{are_lawful_nulls, is_lawful_null};
-use rj_fault::Side;
 use rj_line::Request;
-use rj_strict::Delimiter;
+use rj_line::fault::Side;
 
 /// The texts that stand for NULL in the table of one side.
 pub(crate) fn nulls_of<'a, 'b>(request: &'a Request<'b>, side: Side) -> &'a [&'b str]

@@ -3,7 +3,7 @@
 ghost use Rattle.std.specs.Prelude.{◌≡◌};
 ghost use Rattle.rj_command.specs.Alike.{has_leading_zero, has_trailing_zero, is_minus_zero, is_numeral, is_of, is_plain, starts_with_plus};
 
-use rj_suggest::{are_digits, is_unsigned_text, place_of_point, without_sign};
+use rj_line::suggest::{are_digits, is_unsigned_text, place_of_point, without_sign};
 
 /// What a text may be.
 #[derive(Clone, Copy)]

@@ -20,8 +20,7 @@ use crate::join::undeclared::undeclared_fault;
 use crate::join::watching::{Step, Watch};
 use rj_columns::Table;
 use rj_condition::{BindRefused, BoundJoin, ParseRefused, bind, parse};
-use rj_csv_io::null_texts_read_as_null;
-use rj_fault::{Fault, Side};
+use rj_line::fault::{Fault, Side};
 use rj_line::{Request, Strictness};
 use std::alloc::Global;
 use std::convert::AsSlice;
@@ -235,7 +234,6 @@ pub(crate) fn read_operands<R: Threads + Sync, B: AsSlice<u8> + Drop, G: Watch>(
     ensures apart { IfOk result (AreReadApart request.now) }
     ensures bound { IfOk result (λ o. fits o.join o.left.types o.right.types ≡ true) }
 {
-    null_texts_read_as_null();
     refuse_by_headers(alloc, request, left.as_slice(), right.as_slice(), named)?;
     gate.begin(Step::Read(Side::Left));
     let left = read_side(rt, alloc, left, request, Side::Left)?;

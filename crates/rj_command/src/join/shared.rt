@@ -5,9 +5,9 @@ ghost use Rattle.rj_command.specs.Operands.{shared_fault};
 
 use rj_columns::Table;
 use rj_condition::Word;
-use rj_fault::Fault;
 use rj_line::Request;
-use rj_types::name_fault;
+use rj_line::fault::Fault;
+use rj_settings::types::name_fault;
 use std::alloc::{AllocError, Global};
 
 // These names, and behind them those of a table.

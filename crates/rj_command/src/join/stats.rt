@@ -3,7 +3,7 @@
 ghost use Rattle.std.specs.Prelude.{◌≡◌, Some};
 ghost use Rattle.rj_command.specs.Statistics.{keeping_type, partition_text, stats_text, text_key_text, unkept_text};
 
-use rj_fault::Side;
+use rj_line::fault::Side;
 use std::fmt;
 
 /// How many rows of each table were delivered to a partition. The text is its line, without the line end.

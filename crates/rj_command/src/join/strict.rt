@@ -3,22 +3,21 @@
 ghost use Rattle.std.specs.Prelude.{◌≡◌, ◌≢◌, ◌∷◌, Bool, Err, IfErr, IfOk, IsTrue, OnOk, true};
 ghost use Rattle.csv.specs.Reading.{records, strip_bom};
 ghost use Rattle.rj_csv_io.specs.Tables.{is_null_text};
-ghost use Rattle.rj_strict.specs.Grammar.{Derives, File, records_of};
-ghost use Rattle.rj_strict.specs.Reading.{body_of, config_of};
-ghost use Rattle.rj_strict.specs.declared.header.Header.TheVariants.{Above, First};
+ghost use Rattle.rj_csv_io.specs.Grammar.{Derives, File, records_of};
+ghost use Rattle.rj_csv_io.specs.StrictReading.{body_of, config_of};
+ghost use Rattle.rj_csv_io.specs.declared.strict.header.HeaderPlace.TheVariants.{Above, First};
 ghost use Rattle.rj_command.specs.Sides.{IsReading, IsStrictFault, IsStrictTable, delimiter_of, fault_below, strict_fault};
 ghost use Rattle.rj_command.specs.Sides as sides;
 
 use crate::join::nulls::{delimiter_of, has_lawful_nulls, nulls_of};
 use crate::join::types::types_of_text;
 use rj_columns::Table;
-use rj_csv_io::{InputFormat, read_table_in_parts, without_bom};
-use rj_fault::{Fault, Side, fault_of_read};
-use rj_line::Request;
-use rj_strict::{
-    Delimiter, Header, StrictFault, above_fault, check, derived_with_header, is_derived_in_parts,
-    one_derivation, quote_empty_lines, reads_all_records, reads_quoted_records,
+use rj_csv_io::strict::{
+    Delimiter, HeaderPlace, StrictFault, above_fault, check, is_derived_in_parts, quote_empty_lines,
 };
+use rj_csv_io::{InputFormat, read_table_in_parts, without_bom};
+use rj_line::Request;
+use rj_line::fault::{Fault, Side, fault_of_read};
 use std::alloc::Global;
 use std::thread::Threads;
 
@@ -111,7 +110,6 @@ fn read_quoted<R: Threads + Sync>(
         → IsReading request.now side (records_of file) result }
     ensures lawful { OnOk result (IsTrue (is_null_text request.now.out_null.now)) }
 {
-    reads_quoted_records();
     let Ok(quoted) = quote_empty_lines(alloc, text, delimiter_of(request, side)) else {
         return Err(Fault::Memory);
     };
@@ -128,7 +126,7 @@ fn has_full_lines<R: Threads + Sync>(rt: &R, alloc: Global, text: &[u8], look: &
     if parts > 1 && is_derived_in_parts(rt, alloc, body, delimiter, full, parts) {
         return true;
     }
-    check(body, delimiter, Header::Above(2), full).is_ok()
+    check(body, delimiter, HeaderPlace::Above(2), full).is_ok()
 }
 
 // The table of all records of a text of whole lines.
@@ -143,9 +141,6 @@ fn read_lines<R: Threads + Sync>(
     ensures { (file : File) → Derives (delimiter_of request.now side) First true (body_of First text.now) file
         → IsReading request.now side (records_of file) result }
 {
-    one_derivation();
-    reads_all_records();
-    derived_with_header();
     let look = Look {
         delimiter: delimiter_of(request, side),
         parts: request.settings.workers as usize,
@@ -178,8 +173,6 @@ pub fn read_strictly<R: Threads + Sync>(
     ensures fault { IfErr result (λ f. f ≢ Fault.Memory → IsStrictFault full request.now side text.now f) }
     ensures lawful { OnOk result (IsTrue (is_null_text request.now.out_null.now)) }
 {
-    reads_all_records();
-    derived_with_header();
     let delimiter = delimiter_of(request, side);
     let look = Look {
         delimiter,
@@ -189,10 +182,10 @@ pub fn read_strictly<R: Threads + Sync>(
     if has_full_lines(rt, alloc, text, &look) {
         return read_text(rt, alloc, text, request, side);
     }
-    match check(text, delimiter, Header::First, full) {
+    match check(text, delimiter, HeaderPlace::First, full) {
         Ok(()) => read_quoted(rt, alloc, text, request, side),
         Err(fault) => {
-            let above = above_fault(text, delimiter, Header::First, fault);
+            let above = above_fault(text, delimiter, HeaderPlace::First, fault);
             Err(first_fault(side, fault, read_lines(rt, alloc, above, request, side)))
         }
     }

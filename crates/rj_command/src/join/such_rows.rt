@@ -5,8 +5,8 @@ ghost use Rattle.rj_engine.specs.Join.{adds_left, adds_right};
 ghost use Rattle.rj_command.specs.SuchRows.{are_all, unkept_side, with_rows};
 
 use rj_condition::{BoundJoin, JoinKind};
-use rj_fault::{Fault, Side};
 use rj_line::Request;
+use rj_line::fault::{Fault, Side};
 use rj_settings::RowKinds;
 
 // Whether a join of this type keeps unmatched left rows.

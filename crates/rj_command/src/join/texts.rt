@@ -1,10 +1,11 @@
 //! The texts of the rows that are shown of a joined table, made segment by segment of its left table.
 
-ghost use Rattle.std.specs.Prelude.{◌≡◌, ◌≢◌, ◌<◌, ◌+◌, ◌-◌, ◌^◌, ℕ, Err, IsTrue, List, OnOk, All, IfOk, IfSome, Ok, Some, length, map, slice_index_or, string_bytes};
+ghost use Rattle.std.specs.Prelude.{◌≡◌, ◌≢◌, ◌<◌, ℕ, Err, IsTrue, List, OnOk, All, IfOk, IfSome, Ok, Some, length, map, slice_index_or, string_bytes};
 ghost use Rattle.std.specs.Fork.{AcceptsEach, ChangesEach};
 ghost use Rattle.std.specs.Io.KnownBytes.{Appends};
 ghost use Rattle.std.specs.List.{concat};
 ghost use Rattle.std.specs.Option.{ForSome};
+ghost use Rattle.rj_csv_io.specs.Devices.{after_failure};
 ghost use Rattle.rj_csv_io.specs.Shown.{table_text};
 ghost use Rattle.rj_csv_io.specs.Tables.{is_null_text};
 ghost use Rattle.rj_engine.specs.Shown.{IsRunWithin};
@@ -20,7 +21,7 @@ use rj_csv_io::{
     write_rows_in_parts, write_texts,
 };
 use rj_engine::{Joined, Run, RunView, Shown, cut_runs, right_rows};
-use rj_fault::texts_of;
+use rj_line::fault::texts_of;
 use std::alloc::{AllocError, Global};
 use std::sync::atomic::{AtomicU64, Ordering};
 use std::thread::{self, Threads};
@@ -318,11 +319,10 @@ fn write_segments<R: Threads + Sync, O: Output>(
     requires workers { 0 < written.now.workers }
     requires shown { AreShownOf written.now left }
     requires ends { HasEnds written.now }
-    requires failures { O.count writer.old < 2 ^ 64 - 1 }
     ensures ok { OnOk result (Appends (O.told writer.old) (O.told writer.new)
         (table_text written.now.format.delimiter written.now.format.null.now (map (λ n. n.now) header.now) (shown_cells written.now left))) }
     ensures memory { result ≡ Err WriteRefused.Memory → writer.new ≡ writer.old }
-    ensures device { result ≡ Err WriteRefused.WriteDevice → O.count writer.new ≡ O.count writer.old + 1 }
+    ensures device { result ≡ Err WriteRefused.WriteDevice → O.count writer.new ≡ after_failure (O.count writer.old) }
     ensures kept { result ≢ Err WriteRefused.WriteDevice → O.count writer.new ≡ O.count writer.old }
 {
     let Ok(texts) = texts_of_joined(rt, alloc, left, written) else {
@@ -349,11 +349,10 @@ fn write_whole<R: Threads + Sync, O: Output>(
     requires shown { AreShownOf written.now left.now }
     requires header { length header.now ≡ length written.now.shown.now.origins.items }
     requires null { IsTrue (is_null_text written.now.format.null.now) }
-    requires failures { O.count writer.old < 2 ^ 64 - 1 }
     ensures ok { OnOk result (Appends (O.told writer.old) (O.told writer.new)
         (table_text written.now.format.delimiter written.now.format.null.now (map (λ n. n.now) header.now) (shown_cells written.now left.now))) }
     ensures memory { result ≡ Err WriteRefused.Memory → writer.new ≡ writer.old }
-    ensures device { result ≡ Err WriteRefused.WriteDevice → O.count writer.new ≡ O.count writer.old + 1 }
+    ensures device { result ≡ Err WriteRefused.WriteDevice → O.count writer.new ≡ after_failure (O.count writer.old) }
     ensures kept { result ≢ Err WriteRefused.WriteDevice → O.count writer.new ≡ O.count writer.old }
 {
     let rows = RunView::whole(left, written.right, written.joined, written.shown);
@@ -386,11 +385,10 @@ pub(crate) fn write_shown<R: Threads + Sync, O: Output>(
     requires ends { HasEnds written.now }
     requires names { length written.now.names.now ≡ length written.now.shown.now.origins.items }
     requires null { IsTrue (is_null_text written.now.format.null.now) }
-    requires failures { O.count writer.old < 2 ^ 64 - 1 }
     ensures ok { OnOk result (Appends (O.told writer.old) (O.told writer.new)
         (table_text written.now.format.delimiter written.now.format.null.now (map string_bytes written.now.names.now) (shown_cells written.now left))) }
     ensures memory { result ≡ Err WriteRefused.Memory → writer.new ≡ writer.old }
-    ensures device { result ≡ Err WriteRefused.WriteDevice → O.count writer.new ≡ O.count writer.old + 1 }
+    ensures device { result ≡ Err WriteRefused.WriteDevice → O.count writer.new ≡ after_failure (O.count writer.old) }
     ensures kept { result ≢ Err WriteRefused.WriteDevice → O.count writer.new ≡ O.count writer.old }
 {
     let Ok(header) = texts_of(alloc, written.names) else {

@@ -5,16 +5,16 @@ ghost use Rattle.rj_columns.specs.Names.{empty_table};
 ghost use Rattle.rj_columns.specs.declared.refused.BuildRefused.{BuildRefused};
 ghost use Rattle.rj_csv_io.specs.Pieces.{names_in};
 ghost use Rattle.rj_csv_io.specs.Tables.{of_begun, read_of};
-ghost use Rattle.rj_types.specs.Columns as columns;
+ghost use Rattle.rj_settings.specs.Columns as columns;
 ghost use Rattle.rj_command.specs.Sides.{delimiter_of, has_lawful_nulls, nulls_of, side_read, stands, told, type_fault, types_of};
 
 use crate::join::nulls::delimiter_of;
 use rj_columns::ColumnType;
 use rj_condition::Word;
 use rj_csv_io::{Header, ReadRefused, without_bom};
-use rj_fault::{Fault, Side};
 use rj_line::Request;
-use rj_types::{TypeEntry, name_fault, types_under};
+use rj_line::fault::{Fault, Side};
+use rj_settings::types::{TypeEntry, name_fault, types_under};
 use std::alloc::{AllocError, Global};
 
 // Whether a header that is refused for this has no other error than the count of its types.

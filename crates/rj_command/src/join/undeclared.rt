@@ -8,9 +8,9 @@ ghost use Rattle.rj_command.specs.Undeclared.{column_fault, is_open, is_undeclar
 use crate::join::types::types_of;
 use rj_columns::Table;
 use rj_condition::{Clause, Columns, TableColumn, Word, first_undeclared};
-use rj_fault::{Fault, Side};
 use rj_line::Request;
-use rj_types::{TypeEntry, is_named_in};
+use rj_line::fault::{Fault, Side};
+use rj_settings::types::{TypeEntry, is_named_in};
 use std::alloc::{AllocError, Global};
 
 /// Whether the types of those columns of a side that no entry names aren't declared.

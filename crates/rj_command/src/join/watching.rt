@@ -1,7 +1,7 @@
 //! How a run can be watched.
 
 use rj_engine::{Gate, OpenGate};
-use rj_fault::Side;
+use rj_line::fault::Side;
 use std::sync::atomic::AtomicU64;
 
 /// A step of a run. The steps come in this order, each after the ones before it have ended without

@@ -8,9 +8,9 @@ ghost use Rattle.rj_exchange.specs.Boxes.{SendsOneMore, WasFull, WasEmpty, Takes
 ghost use Rattle.rj_exchange.specs.Boxes.{TakesFrom, IsInboxOf, HasHeard};
 
 use crate::boxes::{Exchange, Full, Inbox, Outbox, Stub};
+use crate::ledger::Parcel;
 use crate::posted::Posted;
 use crate::queue::{ParcelQueue, put, take};
-use rj_ledger::Parcel;
 use std::sync::Wait;
 
 impl Exchange {

@@ -4,10 +4,10 @@ ghost use Rattle.crossbeam_queue.specs.Passes.{view, IsPassOf, IsSamePass, ruled
 ghost use Rattle.crossbeam_queue.specs.Fifo.{Held};
 ghost use Rattle.rj_exchange.specs.Passing.{first_trace, taker, sender, IsTakerTrace, IsSenderTrace, Belongs, HeldAt, Left, Took, Interleaves};
 
+use crate::ledger::Parcel;
 use crate::posted::Posted;
 use crate::queue::{Deal, Fix, ParcelQueue, PostsParcel, QueuePlace, Return, TakesParcel, Trace};
 use crossbeam_queue::Pass;
-use rj_ledger::Parcel;
 use std::sync::Wait;
 
 // The queue gets its place.

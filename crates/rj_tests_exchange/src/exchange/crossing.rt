@@ -4,8 +4,8 @@ ghost use Rattle.rj_exchange.specs.Boxes.{AreOpenedInboxes, AreOpenedOutboxes, I
 
 use crate::exchange::passing::{post_all, take_lanes};
 use crate::waiting::TURNS;
+use rj_exchange::ledger::{Answer, Ledger, Parcel, cut, replay};
 use rj_exchange::{Exchange, Inbox, Outbox};
-use rj_ledger::{Answer, Ledger, Parcel, cut, replay};
 use std::alloc::{AllocError, Global};
 use std::sync::Wait;
 use std::sync::atomic::{AtomicU32, Ordering};

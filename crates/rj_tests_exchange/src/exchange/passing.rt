@@ -3,8 +3,8 @@ ghost use Rattle.std.specs.Prelude.{◌≡◌, ◌≤◌, IfOk};
 ghost use Rattle.rj_exchange.specs.Boxes.{IsOutboxOf, IsInboxOf, TakesFrom};
 
 use crate::waiting::TURNS;
+use rj_exchange::ledger::{Answer, Body, Parcel, cut, replay};
 use rj_exchange::{Exchange, Inbox, Outbox, heard_of_none};
-use rj_ledger::{Answer, Body, Parcel, cut, replay};
 use std::alloc::{AllocError, Global};
 use std::sync::Wait;
 use std::test::Fail;

@@ -3,7 +3,7 @@ ghost use Rattle.std.specs.Prelude.{◌≡◌, ◌<◌, ◌≤◌, ◌+◌, ℕ,
 ghost use Rattle.std.proofs.Props.{props};
 ghost use Rattle.rj_radix.specs.Groups.{IsPart, group};
 
-use rj_ledger::Ledger;
+use rj_exchange::ledger::Ledger;
 use rj_radix::{Scattered, scatter};
 use rj_workers::{Gate, Job, WorkerSettings, run_workers};
 use std::alloc::{AllocError, Global};

@@ -7,10 +7,15 @@ use crate::tables::{join_by_keys, keys};
 use rj_columns::{RowSource, Table};
 use rj_condition::BoundJoin;
 use rj_engine::{
-    Choice, ColumnChoice, Repeated, RowKinds, RowOrder, View, gather, header, nested_loop,
+    Choice, ColumnChoice, OpenGate, Repeated, RowKinds, RowOrder, Settings, View, gather, header,
+    run_join,
 };
+use rj_radix::Plain;
 use std::alloc::Global;
+use std::sync::Wait;
 use std::test::Fail;
+use std::thread::Threads;
+use std::time::Clock;
 
 // Each left row at its place, matched or not, with these columns.
 fn left_rows(columns: ColumnChoice) -> Choice<'static> {
@@ -28,11 +33,18 @@ fn left_rows(columns: ColumnChoice) -> Choice<'static> {
 }
 
 // How many names the joined table has, and how many rows it, its view and the view of what is
-// chosen of it have; none if memory runs out.
-fn counts(alloc: Global, left: &Table, right: &Table, join: &BoundJoin) -> Option<[u64; 4]>
+// chosen of it have; none if memory runs out or a thread can't be started.
+fn counts<R: Threads + Wait + Clock + Sync>(
+    rt: &R,
+    alloc: Global,
+    left: &Table,
+    right: &Table,
+    join: &BoundJoin,
+) -> Option<[u64; 4]>
     requires { fits join.now left.now.types right.now.types ≡ true }
 {
-    let Ok(joined) = nested_loop(alloc, left, right, join) else {
+    let settings = Settings::new(1, 0, 0, 1024, 1, 64, 1)?;
+    let Ok(joined) = run_join(rt, alloc, left, right, join, &settings, &Plain, &OpenGate) else {
         return None;
     };
     let Ok(names) = header(alloc, left, right, join) else {
@@ -50,9 +62,14 @@ fn counts(alloc: Global, left: &Table, right: &Table, join: &BoundJoin) -> Optio
 }
 
 // The same of the join by keys.
-fn counts_by_keys(alloc: Global, left: &Table, right: &Table) -> Option<[u64; 4]> {
+fn counts_by_keys<R: Threads + Wait + Clock + Sync>(
+    rt: &R,
+    alloc: Global,
+    left: &Table,
+    right: &Table,
+) -> Option<[u64; 4]> {
     match join_by_keys(alloc, left, right) {
-        Some(join) => counts(alloc, left, right, &join),
+        Some(join) => counts(rt, alloc, left, right, &join),
         None => None,
     }
 }
@@ -62,7 +79,7 @@ fn plain_joins_and_views(rt: HostRuntime) -> Result<(), Fail> {
     let left = keys(rt.alloc(), &[1, 2, 3])?;
     let right = keys(rt.alloc(), &[3, 2, 2])?;
     assert_eq!(rt;
-        counts_by_keys(rt.alloc(), &left.table, &right.table),
+        counts_by_keys(&rt, rt.alloc(), &left.table, &right.table),
         Some([1, 3, 3, 3])
     );
     Ok(())

@@ -2,7 +2,7 @@
 
 ghost use Rattle.std.specs.Prelude.{◌≡◌, ◌≤◌, ◌+◌, true, IfSome, length, slice_index_or};
 ghost use Rattle.rj_condition.specs.Fits.{fits};
-ghost use Rattle.rj_ledger.specs.Ledgers.{LedgerValue};
+ghost use Rattle.rj_exchange.specs.Ledgers.{LedgerValue};
 
 use crate::tables::{first_keys, join_by_keys};
 use rj_columns::Table;

@@ -17,6 +17,8 @@ returns-in-Err-clause-refusal g c =
     let faults = rw (c.as_slice-files.ensures.value, c.as_slice.ensures.value) at told.fault in
     let headers = rw c.as_slice-files.ensures.value at told.first in
     let kept = rw c.as_slice-files.ensures.value at told.untouched in
+    let unopened = rw c.as_slice-files.ensures.value at told.unopened in
+    let partly = rw (c.as_slice-files.ensures.value, c.as_slice.ensures.value) at told.partly in
     let named = rw c.as_slice-files.ensures.value at c.of.ensures in
     let size : length c.as_slice-files.result.now ≡ length (names c.args.line.now) =
     ap length c.as_slice-files.ensures.value ∙ sym (length-map c.args.line.now.files.items (λ (f : Bor Text). f.now)) in
@@ -25,6 +27,12 @@ returns-in-Err-clause-refusal g c =
       fault = λ e is inside. faults e (record { is = ap Err is; inside = inside });
       first = headers;
       untouched = kept;
+      unopened = λ i none.
+          let found = unopened i none in
+          let told = found.1.1 in
+          let is : c.in-Err.refused ≡ refused.Merge found.1.0 = cc in
+          (found.0, (found.1.0, is, found.1.2));
+      partly = λ e is. partly e (ap Err is);
       input = λ e is. subst (λ n. TellsAmong (is_input n) e) size (told.input e (ap Err is));
       is = named;
     }

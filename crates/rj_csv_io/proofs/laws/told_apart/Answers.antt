@@ -1,5 +1,5 @@
-use Rattle.rj_csv_io.proofs.ApartFacts.{clear-from}
+use Rattle.rj_csv_io.proofs.ApartFacts.{told_apart}
 use Rattle.rj_csv_io.proofs.laws.told_apart.Goals as goal
 
 pub returns : goal.returns
-returns c = clear-from
+returns c = told_apart

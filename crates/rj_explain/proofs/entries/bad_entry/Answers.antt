@@ -1,6 +1,6 @@
 use Rattle.std.proofs.Common.{◌≡◌, ◌∙◌, ◌∷◌, List, ℕ, Option, ap, rules}
 use Rattle.std.specs.Borrow.{Bor}
-use Rattle.rj_types.specs.Words.{text_of}
+use Rattle.rj_settings.specs.Words.{text_of}
 use Rattle.rj_explain.specs.Entries.{further, split_entries}
 use Rattle.rj_explain.specs.Listed.{IsList, IsNoList}
 use Rattle.rj_explain.proofs.EntryFacts.{first-here, first-later, good-last, good-later}

@@ -1,6 +1,6 @@
 use Rattle.std.proofs.Common.{◌∙◌, List, ℕ, Option, [], ◌∷◌, ap, lit<, sym}
 use Rattle.std.proofs.lemmas.Str.Pattern.{strip_prefix_char}
-use Rattle.rj_types.specs.Words.{before}
+use Rattle.rj_settings.specs.Words.{before}
 use Rattle.rj_explain.specs.Entries.{entry_length, further}
 use Rattle.rj_explain.proofs.EntryFacts.{cut-boundary, cut-first, cut-parts, left-is}
 use Rattle.rj_explain.proofs.entries.next_entry.Goals as goal

@@ -1,6 +1,6 @@
 use Rattle.std.proofs.Common.{◌≡◌, ◌∙◌, Bor, List, [], ℕ, arith, false, get_or, map, rules, true}
 use Rattle.std.specs.Prelude.{is_none}
-use Rattle.rj_types.specs.Columns.{kind_of}
+use Rattle.rj_settings.specs.Columns.{kind_of}
 use Rattle.rj_explain.proofs.LookFacts.{find-here, find-more}
 use Rattle.rj_explain.proofs.NameFacts.{item-is}
 use Rattle.rj_explain.proofs.headers.first_unnamed.Goals as goal

@@ -1,7 +1,7 @@
 use Rattle.std.proofs.Common.{◌≡◌, drop, map}
 use Rattle.std.specs.List.{find}
 use Rattle.std.specs.Prelude.{is_none}
-use Rattle.rj_types.specs.Columns.{kind_of}
+use Rattle.rj_settings.specs.Columns.{kind_of}
 use Rattle.rj_explain.proofs.headers.first_unnamed.Given as goal
 
 abbrev pub invariant-loop-i : goal.invariant-loop-i

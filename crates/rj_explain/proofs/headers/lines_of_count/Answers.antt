@@ -2,7 +2,7 @@ use Rattle.std.proofs.Common.{◌≡◌, ◌∙◌, ap, length, map, sym}
 use Rattle.std.proofs.lemmas.List.{length-map}
 use Rattle.std.specs.Option.{option_copied}
 use Rattle.std.proofs.lemmas.Result.{IfOk-weaker}
-use Rattle.rj_types.specs.Columns.{types_under}
+use Rattle.rj_settings.specs.Columns.{types_under}
 use Rattle.rj_explain.specs.Lines.{count_line}
 use Rattle.rj_explain.proofs.headers.lines_of_count.Goals as goal
 

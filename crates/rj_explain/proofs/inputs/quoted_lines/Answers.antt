@@ -1,7 +1,7 @@
 use Rattle.std.proofs.Common.{false, inr, refl}
 use Rattle.std.specs.Prelude.{None}
 use Rattle.std.proofs.lemmas.Result.{IfOk-weaker}
-use Rattle.rj_strict.specs.Grammar.{File}
+use Rattle.rj_csv_io.specs.Grammar.{File}
 use Rattle.rj_explain.proofs.InputFacts.{above-derives}
 use Rattle.rj_explain.proofs.inputs.quoted_lines.Goals as goal
 

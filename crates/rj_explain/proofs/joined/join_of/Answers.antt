@@ -4,6 +4,7 @@ use Rattle.rj_condition.specs.Bound.{bound}
 use Rattle.rj_condition.specs.declared.refused.BindRefused.TheVariants as bind_refused
 use Rattle.rj_condition.specs.declared.refused.ParseRefused.TheVariants as parse_refused
 use Rattle.rj_condition.specs.declared.tree.Clause.{Clause}
+use Rattle.rj_condition.proofs.Answer.{one_clause}
 use Rattle.rj_explain.proofs.joined.join_of.Goals as goal
 
 -- no answer is both
@@ -20,5 +21,5 @@ returns-clause-asked c = λ join asked.
     let left = c.args.left.now in
     let right = c.args.right.now in
     let other : c.in-Err-bind.field-0 ≢ bind_refused.Memory = search rules in
-    let one = c.one_clause.ensures c.args.clause.now c.in-Ok.clause asked.0 c.in-Ok.ensures.answer asked.1 in
+    let one = one_clause c.args.clause.now c.in-Ok.clause asked.0 c.in-Ok.ensures.answer asked.1 in
     apart join c.in-Err-bind.field-0 (bound asked.0 left right) asked.2 (ap (λ (x : Clause). bound x left right) (sym one) ∙ c.in-Err-bind.ensures.fault other)

@@ -2,8 +2,8 @@ use Rattle.std.proofs.Common.{◌≡◌, ◌∙◌, List, ℕ, ap, refl, subst}
 use Rattle.std.specs.Option.{option_copied}
 use Rattle.std.proofs.lemmas.Result.{IfOk-weaker}
 use Rattle.rj_columns.specs.Tables.{TableValue}
-use Rattle.rj_fault.specs.declared.fault.Side.{Side}
-use Rattle.rj_fault.specs.declared.fault.Side.TheVariants as sides
+use Rattle.rj_line.specs.declared.fault.Side.{Side}
+use Rattle.rj_line.specs.declared.fault.Side.TheVariants as sides
 use Rattle.rj_explain.specs.Names.{IsMeant}
 use Rattle.rj_explain.specs.Unknown.{both_names, names_at, side_words, table_at}
 use Rattle.rj_explain.proofs.unknown.words_of_lacking.Goals as goal

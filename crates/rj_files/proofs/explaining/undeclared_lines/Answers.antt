@@ -1,9 +1,9 @@
 use Rattle.std.proofs.Common.{◌≡◌, ◌≢◌, ◌∙◌, ℕ, List, ap, inl, inr, rules, subst, sym}
 use Rattle.std.specs.Prelude.{IsUtf8}
 use Rattle.std.proofs.lemmas.Result.{IfOk-weaker}
-use Rattle.rj_fault.specs.declared.fault.Fault.{Fault}
-use Rattle.rj_fault.specs.declared.fault.Fault.TheVariants as fault
-use Rattle.rj_suggest.specs.Suggested.{IsSuggestFault}
+use Rattle.rj_line.specs.declared.fault.Fault.{Fault}
+use Rattle.rj_line.specs.declared.fault.Fault.TheVariants as fault
+use Rattle.rj_line.specs.Suggested.{IsSuggestFault}
 use Rattle.rj_files.specs.Entries.{entry_for}
 use Rattle.rj_files.specs.Explained.{IsSuggestedOf, undeclared_line}
 use Rattle.rj_files.proofs.SuggestedFacts.{suggested-text}

@@ -1,5 +1,5 @@
 use Rattle.std.proofs.Common.{subst, sym}
-use Rattle.rj_fault.specs.declared.fault.Fault.{Fault}
+use Rattle.rj_line.specs.declared.fault.Fault.{Fault}
 use Rattle.rj_files.specs.Explained.{AreLinesBy}
 use Rattle.rj_files.specs.Streams.{IsAskedFault}
 use Rattle.rj_files.proofs.joining.write_asked.Goals as goal

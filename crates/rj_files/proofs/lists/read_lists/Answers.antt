@@ -1,9 +1,10 @@
-use Rattle.std.proofs.Common.{◌≡◌, ◌∙◌, ◌++◌, ◌∷◌, [], List, ap, map, rules, subst, sym}
+use Rattle.std.proofs.Common.{◌≡◌, ◌∙◌, ◌++◌, ◌∷◌, [], Bool, List, ap, map, rules, subst, sym}
 use Rattle.std.specs.Prelude.{None, string_bytes}
 use Rattle.std.specs.Vec.Iter.{into_iter_items}
 use Rattle.std.specs.declared.alloc.Global.{Global}
 use Rattle.std.specs.declared.string.String.{String}
-use Rattle.rj_files.specs.Labels.{AreReadWords, IsListsFault, label_of}
+use Rattle.rj_files.specs.Asking.{ask_for_lines}
+use Rattle.rj_files.specs.Labels.{AreReadWords, IsListsError, label_of}
 use Rattle.rj_files.proofs.ListFacts.{next-fault, next-label, next-len, next-read, next-rest, of-fault}
 use Rattle.rj_files.proofs.lists.read_lists.Goals as goal
 
@@ -13,8 +14,11 @@ returns-in_err-word-clause-fault g c =
     let words = c.args.words.items in
     let steps = c.in-Some.ensures.steps in
     let is = ap (λ (l : List (String Global)). c.loop-word.yielded ++ l) (sym steps.0) ∙ so.rest in
-    of-fault (λ e. IsListsFault (map string_bytes words) e.fault e.file) c.from_residual-in_err-word.result c.in_err-word.field-0.0 (search rules)
-    (next-fault c.loop-word.yielded (into_iter_items c.next.new.self) words c.loop-word.label c.in-Some.word _ _ is so.label c.in_err-word.ensures.fault)
+    let e = c.in_err-word.field-0.0 in
+    let asked : c.in_ok-explain.explain ≡ ask_for_lines (map string_bytes words) = search rules in
+    of-fault (IsListsError (map string_bytes words) (ask_for_lines (map string_bytes words))) c.from_residual-in_err-word.result e (search rules)
+    (subst (λ (b : Bool). IsListsError (map string_bytes words) b e) asked
+    (next-fault c.loop-word.yielded (into_iter_items c.next.new.self) words c.loop-word.label c.in-Some.word _ e is so.label c.in_err-word.ensures.fault))
 
 pub loop-word-preserved : goal.loop-word-preserved
 loop-word-preserved g c =

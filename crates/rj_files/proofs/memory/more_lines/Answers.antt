@@ -1,5 +1,5 @@
 use Rattle.std.proofs.Common.{◌≢◌, inl, inr, rules}
-use Rattle.rj_fault.specs.declared.fault.Fault.TheVariants as fault
+use Rattle.rj_line.specs.declared.fault.Fault.TheVariants as fault
 use Rattle.rj_files.proofs.memory.more_lines.Goals as goal
 
 pub returns : goal.returns

@@ -1,7 +1,7 @@
 use Rattle.std.proofs.Common.{◌≡◌, Bor, List, ℕ, subst}
 use Rattle.std.specs.Prelude.{Err, Ok, OnOk, Option, Result, option_map}
-use Rattle.rj_fault.specs.declared.fault.Fault.{Fault}
-use Rattle.rj_fault.specs.declared.fault.Side.TheVariants as side
+use Rattle.rj_line.specs.declared.fault.Fault.{Fault}
+use Rattle.rj_line.specs.declared.fault.Side.TheVariants as side
 use Rattle.rj_files.specs.Identities.{Answer}
 use Rattle.rj_files.specs.Outputs.{AreAccepted, IsJudged, input_path, output_path}
 use Rattle.rj_files.proofs.outputs.refuse_inputs.Goals as goal

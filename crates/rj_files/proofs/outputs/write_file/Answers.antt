@@ -1,3 +1,4 @@
+use Rattle.std.proofs.Common.{inr}
 use Rattle.std.specs.Prelude.{ℕ, List, Option}
 use Rattle.std.proofs.lemmas.Result.{IfErr-at_err, IfOk-at_ok}
 use Rattle.rj_line.specs.declared.line.Line.{Line}
@@ -16,4 +17,4 @@ returns-in-Ok-finish-clause-written g c =
     (IfOk-at_ok _ c.in-Ok-written.is c.write_streams-written.ensures.written)
 
 pub returns-in-Err-written-clause-asked : goal.returns-in-Err-written-clause-asked
-returns-in-Err-written-clause-asked g c asks = IfErr-at_err _ c.in-Err-written.is (c.write_streams-written.ensures.asked asks)
+returns-in-Err-written-clause-asked g c asks other = inr (IfErr-at_err _ c.in-Err-written.is (c.write_streams-written.ensures.asked asks) other)

@@ -1,8 +1,10 @@
-use Rattle.std.proofs.Common.{◌∙◌, subst, sym}
-use Rattle.rj_fault.specs.declared.fault.Fault.{Fault}
+use Rattle.std.proofs.Common.{◌∙◌, ◌⊎◌, Bor, List, ℕ, subst, sym}
+use Rattle.std.specs.Prelude.{Option, option_map}
+use Rattle.rj_line.specs.declared.fault.Fault.{Fault}
 use Rattle.rj_files.specs.Explained.{AreLinesOf}
 use Rattle.rj_files.specs.Streams.{IsFaultOf}
 use Rattle.rj_files.specs.Told.{OptionalText}
+use Rattle.rj_files.specs.Unwritten.{IsUnmade, IsUnplacedTold}
 use Rattle.rj_files.proofs.outputs.write_output.Goals as goal
 
 pub returns-in-Err-clause-fault : goal.returns-in-Err-clause-fault
@@ -16,5 +18,14 @@ returns-in-Err-clause-asked g c asks other =
     let l = g.L.Stream.tells c.args.left.now in
     let r = g.S.Stream.tells c.args.right.now in
     let told = c.in-Err.ensures.asked asks (λ is. other (c.with_file.ensures.fault ∙ is)) in
-    subst (λ (f : Fault). AreLinesOf line joined l r f c.with_file.result.lines) (sym c.with_file.ensures.fault)
-    (subst (λ (lines : OptionalText). AreLinesOf line joined l r c.in-Err.e.fault lines) (sym c.with_file.ensures.lines) told)
+    let el = g.L.Stream.explains c.args.left.now in
+    let er = g.S.Stream.explains c.args.right.now in
+    let output : Option (List ℕ) = option_map (λ (name : Bor (List ℕ)). name.now) line.output in
+    subst (λ (f : Fault). IsUnmade output f c.with_file.result.lines ⊎ AreLinesOf line joined l r el er f c.with_file.result.lines) (sym c.with_file.ensures.fault)
+    (subst (λ (lines : OptionalText). IsUnmade output c.in-Err.e.fault lines ⊎ AreLinesOf line joined l r el er c.in-Err.e.fault lines) (sym c.with_file.ensures.lines) told)
+
+pub returns-in-Err-clause-unwritten : goal.returns-in-Err-clause-unwritten
+returns-in-Err-clause-unwritten g c asks is told =
+    let output : Option (List ℕ) = option_map (λ (name : Bor (List ℕ)). name.now) c.args.line.now.output in
+    subst (λ (lines : OptionalText). IsUnplacedTold output lines) (sym c.with_file.ensures.lines)
+    (c.in-Err.ensures.unwritten asks (sym c.with_file.ensures.fault ∙ is) (sym c.with_file.ensures.told ∙ told))

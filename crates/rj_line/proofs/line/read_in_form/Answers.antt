@@ -1,8 +1,8 @@
 use Rattle.std.proofs.Common.{◌≡◌, ◌∙◌, ap, subst, sym, Err, IfErr, List, Option, Result, codes, map, Bor}
 use Rattle.std.proofs.lemmas.Result.{err_from_is_err_and}
 use Rattle.clap.specs.Words.{Text, first_value, found_of}
-use Rattle.rj_fault.specs.declared.fault.Fault.{Fault}
-use Rattle.rj_fault.specs.declared.fault.Fault.TheVariants as fault
+use Rattle.rj_line.specs.declared.fault.Fault.{Fault}
+use Rattle.rj_line.specs.declared.fault.Fault.TheVariants as fault
 use Rattle.rj_line.specs.declared.line.Line.{Line}
 use Rattle.rj_line.specs.Line.{IsFaultIn, IsRequestOf, IsValueFault, asks_all, asks_explained, is_counted_choice, is_quiet_twice, texts_found, word_of, words_of}
 use Rattle.rj_line.specs.Named.{is_true}

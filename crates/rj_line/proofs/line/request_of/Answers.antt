@@ -4,7 +4,7 @@ use Rattle.clap.specs.Words.{Text, first_value, found_of}
 use Rattle.rj_line.specs.Line.{AreSettings, nulls_or, texts_found}
 use Rattle.rj_line.specs.Types.{AreTypesOf}
 use Rattle.rj_line.specs.declared.form.Form.{Form}
-use Rattle.rj_types.specs.declared.entry.TypeEntry.{TypeEntry}
+use Rattle.rj_settings.specs.declared.types.entry.TypeEntry.{TypeEntry}
 use Rattle.rj_line.proofs.LineFacts.{chosen_fault, few_given, left_list_fault, left_nulls_fault, right_list_fault, right_nulls_fault, shared_list_fault}
 use Rattle.rj_line.proofs.line.request_of.Goals as goal
 

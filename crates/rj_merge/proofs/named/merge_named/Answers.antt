@@ -1,8 +1,9 @@
-use Rattle.std.proofs.Common.{◌≡◌, length, subst}
+use Rattle.std.proofs.Common.{◌≡◌, inl, length, map, refl, subst, sym}
 use Rattle.rj_merge.specs.Inputs.{is_input}
-use Rattle.rj_merge.specs.MergedTexts.{GotMerge, IsFaultOfTexts}
+use Rattle.rj_merge.specs.MergedTexts.{GotMerge, IsFaultOfTexts, IsPartlyMerged}
+use Rattle.rj_merge.specs.Named.{IsOpenFault}
 use Rattle.rj_merge.specs.Sources.{TellsAmong}
-use Rattle.rj_merge.proofs.NamedFacts.{opened_tell, shut_among}
+use Rattle.rj_merge.proofs.NamedFacts.{opened_tell, opens_each, shut_among}
 use Rattle.rj_merge.proofs.named.merge_named.Goals as goal
 
 pub returns-in-Err-clause-input : goal.returns-in-Err-clause-input
@@ -39,3 +40,23 @@ returns-in-Ok-merge_texts-clause-untouched g c = λ texts told.
 pub returns-in-Err-merge_texts-clause-untouched : goal.returns-in-Err-merge_texts-clause-untouched
 returns-in-Err-merge_texts-clause-untouched g c = λ texts told.
     c.in-Err-merge_texts.ensures.untouched texts (opened_tell (g.P.Opener.opens c.args.opener.now) g.P.Reader.Read.remaining _ texts c.in-Ok.inputs.items c.in-Ok.ensures.opened told)
+
+pub returns-in-Err-clause-partly : goal.returns-in-Err-clause-partly
+returns-in-Err-clause-partly g c = λ e is texts told. inl refl
+
+pub returns-in-Err-merge_texts-clause-partly : goal.returns-in-Err-merge_texts-clause-partly
+returns-in-Err-merge_texts-clause-partly g c = λ e is texts told.
+    subst (λ k. IsPartlyMerged c.args.how.now k texts (g.O.Output.told c.args.output.now) (g.O.Output.told c.merge_texts.new.output)) c.in-Ok.ensures.copies
+    (c.in-Err-merge_texts.ensures.partly e is texts (opened_tell (g.P.Opener.opens c.args.opener.now) g.P.Reader.Read.remaining _ texts c.in-Ok.inputs.items c.in-Ok.ensures.opened told))
+
+pub returns-in-Err-clause-unopened : goal.returns-in-Err-clause-unopened
+returns-in-Err-clause-unopened g c = λ i none.
+    let found = c.in-Err.ensures.unopened i none in
+    let same : c.in-Err.e ≡ found.0 = cc in
+    (refl, (c.in-Err.e, refl, subst (IsOpenFault (g.P.Opener.shut c.args.opener.now) (map (λ n. n.now) c.args.names.now) i) (sym same) found.2))
+
+pub returns-in-Ok-merge_texts-clause-unopened : goal.returns-in-Ok-merge_texts-clause-unopened
+returns-in-Ok-merge_texts-clause-unopened g c = λ i none. absurd (opens_each (g.P.Opener.opens c.args.opener.now) (map (λ n. n.now) c.args.names.now) c.in-Ok.inputs.items i c.in-Ok.ensures.opened none)
+
+pub returns-in-Err-merge_texts-clause-unopened : goal.returns-in-Err-merge_texts-clause-unopened
+returns-in-Err-merge_texts-clause-unopened g c = λ i none. absurd (opens_each (g.P.Opener.opens c.args.opener.now) (map (λ n. n.now) c.args.names.now) c.in-Ok.inputs.items i c.in-Ok.ensures.opened none)

@@ -1,6 +1,6 @@
 use Rattle.std.proofs.Common.{◌∙◌, Some, ap, sym}
 use Rattle.rj_csv_io.specs.Cuts.{records_in}
-use Rattle.rj_strict.specs.Grammar.{comma}
+use Rattle.rj_csv_io.specs.Grammar.{comma}
 use Rattle.rj_merge.specs.Inputs.{first_record}
 use Rattle.rj_merge.proofs.OpeningFacts.{fault-none, fault-unplaced, no-fault-first, of-first, of-unplaced}
 use Rattle.rj_merge.proofs.opening.open_first.Goals as goal

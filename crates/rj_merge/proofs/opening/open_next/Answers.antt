@@ -1,7 +1,7 @@
 use Rattle.std.proofs.Common.{◌∙◌, Some, ap, sym}
 use Rattle.csv.specs.Records.{fields_of}
 use Rattle.rj_csv_io.specs.Cuts.{records_in}
-use Rattle.rj_strict.specs.Grammar.{comma}
+use Rattle.rj_csv_io.specs.Grammar.{comma}
 use Rattle.rj_merge.proofs.OpeningFacts.{fault-none, fault-other, no-fault, of-header}
 use Rattle.rj_merge.proofs.opening.open_next.Goals as goal
 

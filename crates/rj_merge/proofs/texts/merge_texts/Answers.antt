@@ -1,4 +1,4 @@
-use Rattle.std.proofs.Common.{◌++◌, ◌≡◌, refl, subst, vec_len}
+use Rattle.std.proofs.Common.{◌++◌, ◌≡◌, inl, refl, subst, vec_len}
 use Rattle.csv.specs.Records.{fields_of}
 use Rattle.rj_csv_io.specs.Shown.{rows_text}
 use Rattle.rj_csv_io.proofs.WriteFacts.{ok-holds}
@@ -8,7 +8,7 @@ use Rattle.rj_merge.specs.MergedTexts.{head_rows, records_text}
 use Rattle.rj_merge.specs.Sources.{TellsAmong}
 use Rattle.rj_merge.specs.Texts.{others}
 use Rattle.rj_merge.proofs.HeapFacts.{copies-boxed, numbers-boxed, readings-boxed, tells-boxed}
-use Rattle.rj_merge.proofs.MergedFacts.{fault_of_texts, faultless, merged}
+use Rattle.rj_merge.proofs.MergedFacts.{fault_of_texts, faultless, merged, partly_merged}
 use Rattle.rj_merge.proofs.WrittenFacts.{ok-if}
 use Rattle.rj_merge.proofs.texts.merge_texts.Goals as goal
 
@@ -77,6 +77,29 @@ returns-clause-untouched g c = λ texts tell f is. let none = c.in-Ok.ensures.he
 
 pub returns-in_default-on_heap-clause-untouched : goal.returns-in_default-on_heap-clause-untouched
 returns-in_default-on_heap-clause-untouched g c = λ texts tell f is. let none = c.in-Ok.ensures.headers texts tell in absurd (cc)
+
+pub returns-in-Err-clause-partly : goal.returns-in-Err-clause-partly
+returns-in-Err-clause-partly g c = λ e is texts tell. inl refl
+
+pub returns-in_default-clause-partly : goal.returns-in_default-clause-partly
+returns-in_default-clause-partly g c = λ e is texts tell. inl refl
+
+pub returns-in_default-on_heap-clause-partly : goal.returns-in_default-on_heap-clause-partly
+returns-in_default-on_heap-clause-partly g c = λ e is texts tell. inl refl
+
+pub returns-clause-partly : goal.returns-clause-partly
+returns-clause-partly g c = λ e is texts tell.
+    let known = g.R.Read.remaining in
+    let opened = c.in-Ok.ensures in
+    let header = c.in-Ok.opened.header in
+    let sources = c.in-Ok.opened.sources.items in
+    let boxed = c.in-Ok-on_heap.sources.items in
+    let same = c.in-Ok-on_heap.ensures in
+    let copies = copies_of c.args.inputs.items in
+    let head = rows_text c.args.how.now.delimiter (head_rows c.args.how.now.from (others header.columns (fields_of header.names))) in
+    partly_merged boxed_copies (boxed_reading known) c.args.how.now copies texts boxed (copies-boxed known boxed sources same copies opened.copies) (readings-boxed known boxed sources same _ (opened.readings texts tell))
+    header.columns (fields_of header.names) (g.O.Output.told c.args.output.now) (g.O.Output.told c.put_rows.new.output) (opened.header texts tell) opened.places
+    (c.put_rows.ensures.partly e is head c.in-Ok-begin_block.ensures (tells-boxed known boxed sources same (opened.tells texts tell)))
 
 pub returns-in-Err-clause-input : goal.returns-in-Err-clause-input
 returns-in-Err-clause-input g c = λ e told. let same : c.in-Err.e ≡ e = cc in subst (TellsAmong (is_input (vec_len c.args.inputs))) same c.in-Err.ensures.told

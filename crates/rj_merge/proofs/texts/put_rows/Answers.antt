@@ -1,13 +1,16 @@
-use Rattle.std.proofs.Common.{◌≡◌, ◌++◌, ◌+◌, refl, ap, subst, ◌∙◌, inl}
+use Rattle.std.proofs.Common.{◌≡◌, ◌++◌, refl, ap, subst, sym, ◌∙◌, inl}
 use Rattle.std.specs.BinaryHeap.{heap_items}
 use Rattle.std.specs.List.{Contains}
+use Rattle.rj_csv_io.specs.Devices.{after_failure}
 use Rattle.rj_csv_io.proofs.WriteFacts.{ok-holds}
+use Rattle.rj_merge.specs.Copies.{copied_rows}
 use Rattle.rj_merge.specs.Inputs.{boxed_copies, boxed_reading, boxed_tells}
-use Rattle.rj_merge.specs.MergedTexts.{records_text}
-use Rattle.rj_merge.specs.Merging.{IsFaultOf, faults_of_heads, faults_of_inputs, rows_of_heads}
+use Rattle.rj_merge.specs.MergedTexts.{GotFirst, records_text}
+use Rattle.rj_merge.specs.Merging.{IsFaultOf, faults_of_heads, faults_of_inputs, lists_of_inputs, rows_of_heads}
 use Rattle.rj_merge.specs.Sources.{TellsAmong}
 use Rattle.rj_merge.specs.Steps.{stage_of}
-use Rattle.rj_merge.proofs.PutFacts.{not_memory, only_memory, put-all, put-more, put-none}
+use Rattle.rj_merge.proofs.PutFacts.{not_memory, only_memory, put-all, put-more, put-none, source_last}
+use Rattle.rj_merge.proofs.PartFacts.{boxed_rises, first-none, first-put}
 use Rattle.rj_merge.proofs.StepFacts.{gave_fault, gave_faultless, gave_merge}
 use Rattle.rj_merge.proofs.WrittenFacts.{ok-if}
 use Rattle.rj_merge.proofs.texts.put_rows.Goals as goal
@@ -58,7 +61,7 @@ pub returns-in-Ok-None-clause-input : goal.returns-in-Ok-None-clause-input
 returns-in-Ok-None-clause-input g c = λ e told numbers all. only_memory c.put_block.result c.put_block.ensures.fault e told numbers
 
 pub returns-in-Ok-None-clause-device : goal.returns-in-Ok-None-clause-device
-returns-in-Ok-None-clause-device g c = λ e. c.put_block.ensures.device e ∙ ap (λ n. n + 1) c.rows.invariant.count
+returns-in-Ok-None-clause-device g c = λ e. c.put_block.ensures.device e ∙ ap after_failure c.rows.invariant.count
 
 pub returns-in-Ok-None-clause-kept : goal.returns-in-Ok-None-clause-kept
 returns-in-Ok-None-clause-kept g c = λ e. c.put_block.ensures.kept e ∙ c.rows.invariant.count
@@ -85,10 +88,50 @@ pub returns-in-Err-add_row-clause-fault : goal.returns-in-Err-add_row-clause-fau
 returns-in-Err-add_row-clause-fault g c = λ e refused all. absurd (not_memory c.add_row.result c.add_row.ensures.fault e (c.in-Err-add_row.is ∙ refused.is) refused.inside)
 
 pub returns-in-Err-add_row-clause-device : goal.returns-in-Err-add_row-clause-device
-returns-in-Err-add_row-clause-device g c = λ is. c.in-Err-add_row.ensures.device is ∙ ap (λ n. n + 1) c.rows.invariant.count
+returns-in-Err-add_row-clause-device g c = λ is. c.in-Err-add_row.ensures.device is ∙ ap after_failure c.rows.invariant.count
 
 pub returns-in-Err-add_row-clause-kept : goal.returns-in-Err-add_row-clause-kept
 returns-in-Err-add_row-clause-kept g c = λ is. c.in-Err-add_row.ensures.kept is ∙ c.rows.invariant.count
+
+pub returns-in-Err-clause-partly : goal.returns-in-Err-clause-partly
+returns-in-Err-clause-partly g c = λ e told text w all.
+    first-none c.args.delimiter text (copied_rows (lists_of_inputs boxed_copies (boxed_reading g.R.Read.remaining) c.args.sources.items)) (g.O.Output.told c.args.output.now)
+
+pub returns-in-Ok-None-clause-partly : goal.returns-in-Ok-None-clause-partly
+returns-in-Ok-None-clause-partly g c = λ e told text w all.
+    let known = g.R.Read.remaining in
+    let sources = c.args.sources.items in
+    let start = g.O.Output.told c.args.output.now in
+    let put = first-put c.args.delimiter (boxed_tells known) boxed_copies (boxed_reading known) source_last (boxed_rises known) sources c.rows.merge.passed (heap_items c.rows.merge.heads) start c.args.block c.rows.block (g.O.Output.told c.rows.output)
+    c.rows.invariant.put c.rows.invariant.lawful all text w in
+    subst (λ o. GotFirst c.args.delimiter text (copied_rows (lists_of_inputs boxed_copies (boxed_reading known) sources)) start o) (sym (ap g.O.Output.told (c.put_block.ensures.unput e told))) put
+
+pub returns-in-Err-next-clause-partly : goal.returns-in-Err-next-clause-partly
+returns-in-Err-next-clause-partly g c = λ e told text w all.
+    let known = g.R.Read.remaining in
+    let sources = c.args.sources.items in
+    let start = g.O.Output.told c.args.output.now in
+    let put = first-put c.args.delimiter (boxed_tells known) boxed_copies (boxed_reading known) source_last (boxed_rises known) sources c.rows.merge.passed (heap_items c.rows.merge.heads) start c.args.block c.rows.block (g.O.Output.told c.rows.output)
+    c.rows.invariant.put c.rows.invariant.lawful all text w in
+    put
+
+pub returns-in-Err-add_row-clause-partly : goal.returns-in-Err-add_row-clause-partly
+returns-in-Err-add_row-clause-partly g c = λ e told text w all.
+    let known = g.R.Read.remaining in
+    let sources = c.args.sources.items in
+    let start = g.O.Output.told c.args.output.now in
+    let put = first-put c.args.delimiter (boxed_tells known) boxed_copies (boxed_reading known) source_last (boxed_rises known) sources c.rows.merge.passed (heap_items c.rows.merge.heads) start c.args.block c.rows.block (g.O.Output.told c.rows.output)
+    c.rows.invariant.put c.rows.invariant.lawful all text w in
+    subst (λ o. GotFirst c.args.delimiter text (copied_rows (lists_of_inputs boxed_copies (boxed_reading known) sources)) start o) (sym (ap g.O.Output.told (c.add_row.ensures.unput e (c.in-Err-add_row.is ∙ told)))) put
+
+pub returns-clause-partly : goal.returns-clause-partly
+returns-clause-partly g c = λ e told text w all.
+    let known = g.R.Read.remaining in
+    let sources = c.args.sources.items in
+    let start = g.O.Output.told c.args.output.now in
+    let put = first-put c.args.delimiter (boxed_tells known) boxed_copies (boxed_reading known) source_last (boxed_rises known) sources c.rows.merge.passed (heap_items c.rows.merge.heads) start c.args.block c.rows.block (g.O.Output.told c.rows.output)
+    c.rows.invariant.put c.rows.invariant.lawful all text w in
+    put
 
 pub rows-preserved : goal.rows-preserved
 rows-preserved g c =

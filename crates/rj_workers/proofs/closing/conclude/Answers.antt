@@ -77,5 +77,5 @@ returns-clause-each g c =
     let each : EachOnce c.args.words.stripes.limit (map held_by c.hand_scanned.new.draws.items) = c.if-not-are_scanned.ensures refl in
     let once : EachOnce count (map held_by (map (λ (z : Scanner). z.draws) rs)) = subst (λ (n : ℕ). EachOnce n (map held_by (map (λ (z : Scanner). z.draws) rs))) r.words.0.drawn
     (subst (λ (l : List StripeSeat). EachOnce c.args.words.stripes.limit (map held_by l)) drew each) in
-    λ p d pl. settled_of due count block e c.args.words.halt c.args.words.stripes rs r.back.scanned quiet once (λ q xs. c.contained_suffice.ensures due block q (count + count) r.block xs) c.shape_stays.ensures builds p (get_or c.in_ok-all.all.items p d) pl
+    λ p d pl. settled_of due count block e c.args.words.halt c.args.words.stripes rs r.back.scanned quiet once r.block builds p (get_or c.in_ok-all.all.items p d) pl
     (subst (λ (l : List Outbox). IsEnded builds (count + count) block e (stub_lists l) p (get_or c.in_ok-all.all.items p d)) c.in_ok-outboxes.ensures.outboxes (c.in_ok-all.ensures.each p d pl))

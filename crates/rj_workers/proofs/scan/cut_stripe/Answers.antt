@@ -14,9 +14,8 @@ loop-partition-preserved g c =
     let right = c.part-right_rows.ensures ∙ (c.requires.rights.each p lt).same in
     let a = c.in_ok-cut_part.ensures in let b = c.in_ok-cut_part-2.ensures in
     let was : List Sending = c.loop-partition.lists.items in let mid : List Sending = c.cut_part.new.lists.items in let new : List Sending = c.cut_part-in-loop-partition.new.lists.items in
-    let law = c.cut_is_planned.ensures due block in
     let rows : List ℕ = c.part-left_rows.result.now in let others : List ℕ = c.part-right_rows.result.now in record {
-      planned = planned_push due block two p others mid new b.0 b.1 b.2 right law (planned_push due block one p rows was mid a.0 a.1 a.2 left law v.planned);
+      planned = planned_push due block two p others mid new b.0 b.1 b.2 right (planned_push due block one p rows was mid a.0 a.1 a.2 left v.planned);
       range = range_push due block two p others mid new b.0 b.1 b.2 right e lt (range_push due block one p rows was mid a.0 a.1 a.2 left e lt v.range);
       left = cut_kept due block one (p + 1) mid new b.0 b.1 (cut_more due block one p rows was mid a.0 a.1 a.2 left v.left);
       right = cut_more due block two p others mid new b.0 b.1 b.2 right (cut_kept due block two p was mid a.0 a.1 v.right);

@@ -1,6 +1,6 @@
 use Rattle.std.proofs.Common.{◌+◌}
-use Rattle.rj_ledger.specs.declared.parcel.Parcel.{Parcel}
-use Rattle.rj_ledger.specs.Lawful.{IsPlanned}
+use Rattle.rj_exchange.specs.declared.ledger.parcel.Parcel.{Parcel}
+use Rattle.rj_exchange.specs.Lawful.{IsPlanned}
 use Rattle.rj_workers.specs.Posts.{AreInRange, HasCut, IsLeft}
 use Rattle.rj_workers.proofs.scan.cut_stripe.Given as goal
 

@@ -44,7 +44,7 @@ loop-preserved g c =
       number = ap (λ (o : Outbox). o.number) same ∙ s.me.1.0 ∙ v.number;
       planned = subst (λ (o : Outbox). OnlyPlanned due block (sent_by_queue o)) (sym same) (s.added v.planned);
       posted = λ x h. subst (λ (o : Outbox). HasPostedStripe due block count e x (sent_by_queue o)) (sym same)
-          (kept_stripe due block count e x a b s.kept (v.posted x (held_before c.put_back_undoes.ensures (held_by c.loop.me.draws) (held_by c.scan_stripe.new.me.draws) (held_by c.give_up.new.me.draws) c.in-Some-draw.stripe x drew r.back h)));
+          (kept_stripe due block count e x a b s.kept (v.posted x (held_before (held_by c.loop.me.draws) (held_by c.scan_stripe.new.me.draws) (held_by c.give_up.new.me.draws) c.in-Some-draw.stripe x drew r.back h)));
     }
 
 pub returns-in_default-give_up : goal.returns-in_default-give_up

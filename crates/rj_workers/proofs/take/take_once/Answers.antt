@@ -1,13 +1,15 @@
 use Rattle.std.proofs.Common.{◌≡◌, ◌+◌, ◌<◌, ◌++◌, ◌∷◌, [], ℕ, List, sym, subst, ap, ◌∙◌, length, arith}
 use Rattle.std.proofs.lemmas.List.{length-map}
-use Rattle.rj_ledger.specs.declared.parcel.Parcel.{Parcel}
-use Rattle.rj_ledger.specs.Ledgers.{LedgerValue, opened, after_offer, after_all}
+use Rattle.rj_exchange.specs.declared.ledger.parcel.Parcel.{Parcel}
+use Rattle.rj_exchange.specs.Ledgers.{LedgerValue, opened, after_offer, after_all}
+use Rattle.rj_exchange.proofs.CloseFacts.{complete_stays}
+use Rattle.rj_exchange.proofs.EngineFacts.{after_all-append}
 use Rattle.rj_exchange.specs.Boxes.{taken_by_lane, taken_of}
 use Rattle.rj_exchange.specs.declared.boxes.Inbox.{Inbox}
 use Rattle.rj_workers.specs.Arrivals.{Takes, IsArrived}
 use Rattle.rj_workers.specs.Takes.{IsBuilding}
 use Rattle.rj_workers.proofs.Takes.{arrived_more}
-use Rattle.rj_workers.proofs.Ledgers.{after_append, building_kept}
+use Rattle.rj_workers.proofs.Ledgers.{building_kept}
 use Rattle.rj_workers.proofs.take.take_once.Goals as goal
 
 pub returns-in_default : goal.returns-in_default
@@ -29,7 +31,7 @@ returns g c =
     let v : LedgerValue = c.args.held.now.ledger in let w : LedgerValue = c.offer.new.ledger in let xs : List Parcel = a.0 in
     let is : w ≡ after_offer v x = c.in_ok-offer.ensures in
     let opening : LedgerValue = opened inbox.partition senders block in
-    let now : w ≡ after_all opening (xs ++ x ∷ []) = is ∙ ap (λ (u : LedgerValue). after_offer u x) a.2 ∙ sym (after_append opening xs (x ∷ [])) in record {
+    let now : w ≡ after_all opening (xs ++ x ∷ []) = is ∙ ap (λ (u : LedgerValue). after_offer u x) a.2 ∙ sym (after_all-append opening xs (x ∷ [])) in record {
       taking = (
         c.take.ensures.inbox t.0,
         (
@@ -39,5 +41,5 @@ returns g c =
         ),
       );
       built = subst (λ (p : ℕ). IsBuilding (g.J.Job.builds c.args.shared.now.job.now) p w c.args.held.now.building) (sym c.take.ensures.same.1)
-          (building_kept (g.J.Job.builds c.args.shared.now.job.now) inbox.partition v w (λ whole. is ∙ c.complete_stays.ensures.stays v (x ∷ []) whole) c.args.held.now.building h.built);
+          (building_kept (g.J.Job.builds c.args.shared.now.job.now) inbox.partition v w (λ whole. is ∙ complete_stays v (x ∷ []) whole) c.args.held.now.building h.built);
     }

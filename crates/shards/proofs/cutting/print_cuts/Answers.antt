@@ -2,6 +2,7 @@ use Rattle.std.proofs.Common.{List, refl, rules, subst, sym, ℕ}
 use Rattle.std.specs.Prelude.{IfSome}
 use Rattle.std.proofs.lemmas.Result.{IfErr-weaker, IfOk-weaker}
 use Rattle.shards.specs.Cuts.{HasCutFailure, HasCutLines, IsCutsFailure, of_cuts, of_file, of_head, of_none, of_output, of_text}
+use Rattle.shards.specs.Outputs.{printed_in}
 use Rattle.shards.specs.declared.cutting.CutText.{CutText}
 use Rattle.shards.specs.declared.failure.Failure.TheVariants.{Told}
 use Rattle.shards.proofs.CutFacts.{cut-fault, cut-text, cut-told}
@@ -24,13 +25,15 @@ returns-in-Err-NoHeader-clause-cutting g c =
 pub returns-in_err-end-clause-failure : goal.returns-in_err-end-clause-failure
 returns-in_err-end-clause-failure g c =
     let holds = g.S.Storage.holds c.args.storage.now in
-    let told : IsCutsFailure holds c.args.line.now c.args.ranges (g.O.Output.told c.args.output.now) (g.O.Output.told c.args.output.now) (Told c.in_err-end.field-0.0) = of_file c.in_err-end.field-0.0 c.in_err-end.ensures.fault refl in
+    let old = printed_in g.O.Output.told g.O.Output.count c.args.output.now in
+    let told : IsCutsFailure holds c.args.line.now c.args.ranges old old (Told c.in_err-end.field-0.0) = of_file c.in_err-end.field-0.0 c.in_err-end.ensures.fault refl in
     search (rules, told)
 
 pub returns-in_err-input-clause-failure : goal.returns-in_err-input-clause-failure
 returns-in_err-input-clause-failure g c =
     let holds = g.S.Storage.holds c.args.storage.now in
-    let told : IsCutsFailure holds c.args.line.now c.args.ranges (g.O.Output.told c.args.output.now) (g.O.Output.told c.args.output.now) (Told c.in_err-input.field-0.0) = of_file c.in_err-input.field-0.0 c.in_err-input.ensures.fault refl in
+    let old = printed_in g.O.Output.told g.O.Output.count c.args.output.now in
+    let told : IsCutsFailure holds c.args.line.now c.args.ranges old old (Told c.in_err-input.field-0.0) = of_file c.in_err-input.field-0.0 c.in_err-input.ensures.fault refl in
     search (rules, told)
 
 pub returns-in_err-text-clause-failure : goal.returns-in_err-text-clause-failure
@@ -39,7 +42,8 @@ returns-in_err-text-clause-failure g c =
     let l = c.args.line.now in
     let own = c.operand-own.result.now in
     let cut = cut-text holds l own c.operand-own.ensures c.args.ranges c.in_ok-end.end c.in-Ok.head c.in-Ok.ensures.head c.in_ok-end.ensures.size in
-    let told : IsCutsFailure holds l c.args.ranges (g.O.Output.told c.args.output.now) (g.O.Output.told c.args.output.now) c.in_err-text.field-0.0 =
+    let old = printed_in g.O.Output.told g.O.Output.count c.args.output.now in
+    let told : IsCutsFailure holds l c.args.ranges old old c.in_err-text.field-0.0 =
     of_cuts _ c.in_err-text.field-0.0 cut
     (cut-told holds l own c.operand-own.ensures c.in-Ok.head.begin (g.S.Reader.Input.tells c.in_ok-input.input) (λ text. HasCutFailure l.side text c.in_err-text.field-0.0) c.in_ok-input.ensures.bytes c.in_err-text.ensures.failure) refl in
     search (rules, told)

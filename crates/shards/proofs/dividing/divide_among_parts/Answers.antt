@@ -25,6 +25,7 @@ returns-in-Ok-fill_parts-clause-divided g c =
     let size : c.in-Ok.parts.len ≡ length new = omega (arith, c.fill_parts.auto.outputs, c.in-Ok.parts.ok.0, ap length c.as_mut_slice.ensures.value) in
     on_ok_weaker c.print_counts-printed.result (λ printed. record {
       rows = c.in-Ok-fill_parts.counts.0;
+      counted = c.in-Ok-fill_parts.ensures.counted;
       parted = λ tells.
           written-parts g.S.Part.Output.told (range_file (g.S.Storage.holds c.args.storage.now) range) range c.in-Ok-fill_parts.counts.0 c.in-Ok.parts.len _ _ _ items new (drop (length new) items)
           (ap (mixed_shard c.args.plan.now.0.parts) c.as_slice.ensures.value) c.as_mut_slice.ensures.value size c.in-Ok-fill_parts.ensures.parted (c.in-Ok.ensures.empty tells);
@@ -45,6 +46,7 @@ returns-in-Ok-fill_parts-clause-fault g c =
       many,
       inr (
         c.in-Ok-fill_parts.counts.0,
+        c.in-Ok-fill_parts.ensures.counted,
         (λ tells.
             written-parts told (range_file (g.S.Storage.holds c.args.storage.now) range) range c.in-Ok-fill_parts.counts.0 c.in-Ok.parts.len _ _ _ items new (drop (length new) items)
             (ap (mixed_shard c.args.plan.now.0.parts) c.as_slice.ensures.value) c.as_mut_slice.ensures.value size c.in-Ok-fill_parts.ensures.parted (c.in-Ok.ensures.empty tells)),

@@ -1,7 +1,7 @@
 use Rattle.std.proofs.Common.{map, subst}
 use Rattle.std.specs.Prelude.{IfErr, IfSome}
-use Rattle.rj_divide.specs.Texts.{HaveFirstRows}
-use Rattle.rj_divide.specs.declared.reading.Reading.{Reading}
+use Rattle.rj_shards.specs.Texts.{HaveFirstRows}
+use Rattle.rj_shards.specs.declared.division.reading.Reading.{Reading}
 use Rattle.shards.specs.Ranges.{range_dividing}
 use Rattle.shards.proofs.dividing.divide_input.Goals as goal
 

@@ -1,10 +1,11 @@
-use Rattle.std.proofs.Common.{◌≡◌, ◌∙◌, ap, map, refl, subst}
+use Rattle.std.proofs.Common.{◌∙◌, ap, map, refl, subst}
 use Rattle.std.proofs.lemmas.List.{length-map}
 use Rattle.std.proofs.lemmas.Result.{IfErr-weaker}
 use Rattle.csv.proofs.WriteFacts.{on_ok_both}
 use Rattle.rj_csv_io.specs.Pieces.{names_in}
-use Rattle.rj_types.specs.Columns.{types_under}
+use Rattle.rj_settings.specs.Columns.{types_under}
 use Rattle.shards.specs.Lines.{operand_of}
+use Rattle.shards.specs.Outputs.{printed_in}
 use Rattle.shards.specs.Plans.{IsRangeFailure, IsRangeOf, of_own, of_parts}
 use Rattle.shards.specs.Ranges.{IsOfFolder, mixed_shard, range_file}
 use Rattle.shards.specs.declared.dividing.Range.{Range}
@@ -61,6 +62,7 @@ returns-in-Ok-plan-clause-division g c =
       count = length-map c.divide_among_parts.result.1.items g.S.Part.Output.told ∙ (count ∙ c.in-Ok-plan.ensures.parts);
       divided = record {
         rows = divided.rows;
+        counted = divided.counted;
         parted = rw c.in-Ok-plan.ensures.parts at divided.parted;
         printed = divided.printed;
       };
@@ -86,9 +88,9 @@ returns-in-Ok-plan-clause-failure g c =
     range-is holds l c.args.bounds own range c.operand-own.ensures refl c.in-Ok.ensures.head c.in-Ok.ensures.table (c.as_slice-types.ensures.value ∙ c.in-Ok.ensures.types) c.as_slice-nulls.ensures.value refl c.min-from.ensures refl in
     let columns = c.in-Ok-plan.plan.1.items in
     let told = map g.S.Part.Output.told c.divide_among_parts.result.1.items in
-    let old = g.O.Output.told c.args.output.now in
-    let new = g.O.Output.told c.divide_among_parts.new.output in
-    let tells = g.S.Storage.tells_parts c.args.storage.now in
+    let old = printed_in g.O.Output.told g.O.Output.count c.args.output.now in
+    let new = printed_in g.O.Output.told g.O.Output.count c.divide_among_parts.new.output in
+    let tells = g.S.Storage.tells_parts c.args.storage.now c.args.folder.now in
     let parts = c.in-Ok-plan.plan.0.parts in
     IfErr-weaker c.divide_among_parts.result.0 (IsOfFolder tells (range_file holds range) (mixed_shard parts columns) range parts told old new) (IsRangeFailure holds tells l c.args.bounds told old new) (λ e why.
     of_parts range columns e lawful is c.in-Ok-plan.ensures.keys
@@ -112,5 +114,5 @@ returns-clause-failure g c =
     } in
     let is : IsRangeOf holds l c.args.bounds range =
     range-is holds l c.args.bounds own range c.operand-own.ensures refl c.in-Ok.ensures.head c.in-Ok.ensures.table (c.as_slice-types.ensures.value ∙ c.in-Ok.ensures.types) c.as_slice-nulls.ensures.value refl c.min-from.ensures refl in
-    looked holds (g.S.Storage.tells_parts c.args.storage.now) l c.args.bounds range c.in-Err-plan.failure c.failure_of_range-failure.result _ _ _ lawful is c.in-Err-plan.ensures.fault c.failure_of_range-failure.ensures
+    looked holds (g.S.Storage.tells_parts c.args.storage.now c.args.folder.now) l c.args.bounds range c.in-Err-plan.failure c.failure_of_range-failure.result _ _ _ lawful is c.in-Err-plan.ensures.fault c.failure_of_range-failure.ensures
     (ap (map g.S.Part.Output.told) c.new-in-Err-plan.ensures.items)

@@ -1,6 +1,6 @@
 use Rattle.std.proofs.Common.{List, Err, ap, length, map, subst, sym, ℕ}
 use Rattle.std.proofs.lemmas.List.{length-map}
-use Rattle.rj_divide.specs.Headers.{HaveTextBefore, IsHeaderFault, header_text}
+use Rattle.rj_shards.specs.Headers.{HaveTextBefore, IsHeaderFault, header_text}
 use Rattle.shards.specs.Ranges.{place_name, range_header}
 use Rattle.shards.specs.declared.failure.Failure.TheVariants.{Told}
 use Rattle.shards.proofs.RangeFacts.{header-before}

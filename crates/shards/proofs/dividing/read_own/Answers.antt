@@ -1,5 +1,5 @@
 use Rattle.std.proofs.Common.{◌≡◌, ◌∙◌, false, refl, rules, subst, sym, true}
-use Rattle.rj_fault.specs.declared.fault.Fault.TheVariants as fault
+use Rattle.rj_line.specs.declared.fault.Fault.TheVariants as fault
 use Rattle.shards.specs.Plans.{IsOwnFailure, has_lawful_nulls, of_head, of_nulls, of_table}
 use Rattle.shards.specs.declared.failure.Failure.TheVariants.{Told}
 use Rattle.shards.proofs.PlanFacts.{head-read, lawful-nulls, side-fault, side-head, side-table, table-fault}

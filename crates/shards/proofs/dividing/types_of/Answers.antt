@@ -1,6 +1,6 @@
 use Rattle.std.proofs.Common.{◌∙◌, ◌++◌, ◌∷◌, [], List, ap, sym}
 use Rattle.rj_columns.specs.declared.cell.ColumnType.{ColumnType}
-use Rattle.rj_divide.proofs.HeaderFacts.{one-more}
+use Rattle.rj_shards.proofs.HeaderFacts.{one-more}
 use Rattle.shards.proofs.dividing.types_of.Goals as goal
 
 pub loop-column-preserved : goal.loop-column-preserved

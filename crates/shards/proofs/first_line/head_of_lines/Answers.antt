@@ -1,9 +1,9 @@
 use Rattle.std.proofs.Common.{◌≡◌, ◌≢◌, ◌++◌, ◌+◌, ◌-◌, ℕ, List, ap, arith, length, rules, subst, sym}
-use Rattle.rj_strict.proofs.MarkedParts.{body-short}
-use Rattle.rj_strict.specs.Faults.{HasFault}
-use Rattle.rj_strict.specs.Grammar.{Derives}
-use Rattle.rj_strict.specs.declared.header.Header.TheVariants.{First}
-use Rattle.rj_fault.specs.declared.fault.Fault.TheVariants as fault
+use Rattle.rj_csv_io.proofs.MarkedParts.{body-short}
+use Rattle.rj_csv_io.specs.StrictFaults.{HasFault}
+use Rattle.rj_csv_io.specs.Grammar.{Derives}
+use Rattle.rj_csv_io.specs.declared.strict.header.HeaderPlace.TheVariants.{First}
+use Rattle.rj_line.specs.declared.fault.Fault.TheVariants as fault
 use Rattle.shards.specs.Heads.{Continues, HasNoLine, blank, broken}
 use Rattle.shards.proofs.HeadFacts.{begin-is, line-is, line-more, whole-end}
 use Rattle.shards.proofs.first_line.head_of_lines.Goals as goal

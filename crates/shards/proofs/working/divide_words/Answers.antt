@@ -1,9 +1,9 @@
-use Rattle.std.proofs.Common.{Bor, List, ap, map, refl, subst, sym}
+use Rattle.std.proofs.Common.{ap, map, refl, subst, sym, true}
 use Rattle.std.proofs.lemmas.Result.{IfErr-at_err, IfErr-weaker, on_ok_weaker}
-use Rattle.clap.specs.Words.{Text}
-use Rattle.rj_fault.specs.declared.fault.Fault.TheVariants as fault
+use Rattle.rj_line.specs.declared.fault.Fault.TheVariants as fault
 use Rattle.shards.specs.declared.failure.Failure.TheVariants.{Told}
 use Rattle.shards.proofs.MemoryFacts.{kept-cuts, kept-range}
+use Rattle.shards.specs.Outputs.{printed_in}
 use Rattle.shards.specs.Works.{IsTaskDone, IsTaskFailure, of_task, of_words}
 use Rattle.shards.specs.declared.line.Task.{Task}
 use Rattle.shards.proofs.working.divide_words.Goals as goal
@@ -16,8 +16,8 @@ returns-in-Divide-clause-done g c =
     let holds = g.S.Storage.holds c.args.storage.now in
     let tells = g.S.Storage.tells_parts c.args.storage.now in
     let told = map g.S.Part.Output.told c.divide_range.result.1.items in
-    let old = g.O.Output.told c.args.output.now in
-    let new = g.O.Output.told c.divide_range.new.output in
+    let old = printed_in g.O.Output.told g.O.Output.count c.args.output.now in
+    let new = printed_in g.O.Output.told g.O.Output.count c.divide_range.new.output in
     on_ok_weaker c.divide_range.result.0 (λ is. record {
       line = c.in-Ok.line;
       read = c.in-Ok.ensures.line;
@@ -29,8 +29,8 @@ returns-in-Divide-clause-failure g c =
     let holds = g.S.Storage.holds c.args.storage.now in
     let tells = g.S.Storage.tells_parts c.args.storage.now in
     let told = map g.S.Part.Output.told c.divide_range.result.1.items in
-    let old = g.O.Output.told c.args.output.now in
-    let new = g.O.Output.told c.divide_range.new.output in
+    let old = printed_in g.O.Output.told g.O.Output.count c.args.output.now in
+    let new = printed_in g.O.Output.told g.O.Output.count c.divide_range.new.output in
     IfErr-weaker c.divide_range.result.0 _ _ (λ e is.
     of_task c.in-Ok.line e c.in-Ok.ensures.line (subst (λ (t : Task). IsTaskFailure holds tells c.in-Ok.line t told old new e) (sym c.in-Divide.is) is)) c.divide_range.ensures.failure
 
@@ -42,8 +42,8 @@ returns-clause-done g c =
     let holds = g.S.Storage.holds c.args.storage.now in
     let tells = g.S.Storage.tells_parts c.args.storage.now in
     let told = map g.S.Part.Output.told c.new-in-Cut.result.items in
-    let old = g.O.Output.told c.args.output.now in
-    let new = g.O.Output.told c.print_cuts-printed.new.output in
+    let old = printed_in g.O.Output.told g.O.Output.count c.args.output.now in
+    let new = printed_in g.O.Output.told g.O.Output.count c.print_cuts-printed.new.output in
     on_ok_weaker c.print_cuts-printed.result (λ is. record {
       line = c.in-Ok.line;
       read = c.in-Ok.ensures.line;
@@ -55,8 +55,8 @@ returns-clause-failure g c =
     let holds = g.S.Storage.holds c.args.storage.now in
     let tells = g.S.Storage.tells_parts c.args.storage.now in
     let told = map g.S.Part.Output.told c.new-in-Cut.result.items in
-    let old = g.O.Output.told c.args.output.now in
-    let new = g.O.Output.told c.print_cuts-printed.new.output in
+    let old = printed_in g.O.Output.told g.O.Output.count c.args.output.now in
+    let new = printed_in g.O.Output.told g.O.Output.count c.print_cuts-printed.new.output in
     IfErr-weaker c.print_cuts-printed.result _ _ (λ e is.
     of_task c.in-Ok.line e c.in-Ok.ensures.line
     (subst (λ (t : Task). IsTaskFailure holds tells c.in-Ok.line t told old new e) (sym c.in-Cut.is) (ap (map g.S.Part.Output.told) c.new-in-Cut.ensures.items, is))) c.print_cuts-printed.ensures.failure
@@ -66,8 +66,8 @@ returns-clause-unchanged g c = λ none. absurd (none c.in-Ok.line c.in-Ok.ensure
 
 pub returns-in-Divide-clause-memory : goal.returns-in-Divide-clause-memory
 returns-in-Divide-clause-memory g c = λ is.
-    kept-range (g.S.Storage.holds c.args.storage.now) (g.S.Storage.tells_parts c.args.storage.now) c.in-Ok.line _ _ _ c.in-Divide.bounds (Told fault.Memory) refl (IfErr-at_err _ is c.divide_range.ensures.failure)
+    kept-range (g.S.Storage.holds c.args.storage.now) (g.S.Storage.tells_parts c.args.storage.now c.in-Divide.folder.now) c.in-Ok.line _ _ _ c.in-Divide.bounds (Told fault.Memory) refl (IfErr-at_err _ is c.divide_range.ensures.failure)
 
 pub returns-clause-memory : goal.returns-clause-memory
 returns-clause-memory g c = λ is.
-    kept-cuts (g.S.Storage.holds c.args.storage.now) (g.S.Storage.tells_parts c.args.storage.now) c.in-Ok.line (map g.S.Part.Output.told c.new-in-Cut.result.items) _ _ c.in-Cut.ranges (Told fault.Memory) refl (IfErr-at_err _ is c.print_cuts-printed.ensures.failure)
+    kept-cuts (g.S.Storage.holds c.args.storage.now) true c.in-Ok.line (map g.S.Part.Output.told c.new-in-Cut.result.items) _ _ c.in-Cut.ranges (Told fault.Memory) refl (IfErr-at_err _ is c.print_cuts-printed.ensures.failure)

@@ -1,5 +1,5 @@
 use Rattle.std.proofs.Common.{◌∙◌, ap}
-use Rattle.rj_fault.specs.declared.fault.Side.TheVariants as side
+use Rattle.rj_line.specs.declared.fault.Side.TheVariants as side
 use Rattle.rj_command.specs.Auto.{compares, entries_from}
 use Rattle.rj_command.proofs.join.auto.entries_by.Goals as goal
 

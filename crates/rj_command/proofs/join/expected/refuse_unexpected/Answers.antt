@@ -1,8 +1,8 @@
 use Rattle.std.proofs.Common.{◌≡◌, ◌⊎◌, Result, sym, subst}
 use Rattle.std.specs.Prelude.{IfErr, OnOk}
 use Rattle.rj_command.specs.Expected.{IsExpected, IsUnexpected}
-use Rattle.rj_fault.specs.declared.fault.Fault.{Fault}
-use Rattle.rj_fault.specs.declared.fault.Fault.TheVariants as fault
+use Rattle.rj_line.specs.declared.fault.Fault.{Fault}
+use Rattle.rj_line.specs.declared.fault.Fault.TheVariants as fault
 use Rattle.rj_command.proofs.ExpectedFacts.{expected_told, unexpected_told}
 use Rattle.rj_command.proofs.join.expected.refuse_unexpected.Goals as goal
 

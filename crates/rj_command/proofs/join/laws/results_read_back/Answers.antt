@@ -4,10 +4,11 @@ use Rattle.rj_columns.specs.Names.{name_fault}
 use Rattle.rj_columns.specs.Tables.{FitsTypes, TableValue}
 use Rattle.rj_csv_io.specs.RoundTrips.{CanReadBack, IsHeld}
 use Rattle.rj_csv_io.specs.Tables.{read_of}
+use Rattle.rj_csv_io.proofs.LawFacts.{mark_is_of_the_first_name, read_tables_hold_their_types, tables_read_back}
 use Rattle.rj_engine.specs.Cells.{name_of}
 use Rattle.rj_engine.specs.Chosen.{chosen_columns, chosen_rows}
 use Rattle.rj_engine.specs.Results.{joined_of}
-use Rattle.rj_fault.specs.declared.fault.Side.TheVariants as side
+use Rattle.rj_line.specs.declared.fault.Side.TheVariants as side
 use Rattle.rj_command.specs.ReadBack.{type_of_column, written_table}
 use Rattle.rj_command.specs.Sides.{nulls_of}
 use Rattle.rj_command.proofs.ApartFacts.{table-holds}
@@ -22,8 +23,8 @@ returns c = λ left right text q stats nulls j may can.
     let rows = chosen_rows q.choice (length l.rows) (joined_of j.join l r) in
     let table = written_table q j.names j.join l r in
     let Holds : TableValue → Type 0 = λ t. All (FitsTypes t.types) t.rows × All (All IsHeld) t.rows in
-    let of_left = table-holds Holds q side.Left (λ found kinds t e. c.read_tables_hold_their_types.ensures found kinds (nulls_of q side.Left) t e) left l j.operands.left_read in
-    let of_right = table-holds Holds q side.Right (λ found kinds t e. c.read_tables_hold_their_types.ensures found kinds (nulls_of q side.Right) t e) right r j.operands.right_read in
+    let of_left = table-holds Holds q side.Left (λ found kinds t e. read_tables_hold_their_types found kinds (nulls_of q side.Left) t e) left l j.operands.left_read in
+    let of_right = table-holds Holds q side.Right (λ found kinds t e. read_tables_hold_their_types found kinds (nulls_of q side.Right) t e) right r j.operands.right_read in
     let lawful : name_fault [] j.names ≡ None = elim (kept_or_not q.choice.repeated) [
       | inl kept ↦ elim (listed_or_not q.choice.columns) [
         | inl listed ↦ j.named.selected listed.0 listed.1
@@ -41,6 +42,6 @@ returns c = λ left right text q stats nulls j may can.
       held = rows-held l r of_left.1 of_right.1 origins rows;
       apart = can.apart;
     } in
-    let plain = c.mark_is_of_the_first_name.ensures q.out_delimiter q.out_null.now j.names table.rows may can.unmarked in
+    let plain = mark_is_of_the_first_name q.out_delimiter q.out_null.now j.names table.rows may can.unmarked in
     let P : List ℕ → Type 0 = λ text. read_of q.out_delimiter text table.types nulls ≡ Ok table in
-    subst P (sym j.shown) (c.tables_read_back.ensures q.out_delimiter nulls q.out_null.now table may can.null_texts can.among back plain)
+    subst P (sym j.shown) (tables_read_back q.out_delimiter nulls q.out_null.now table may can.null_texts can.among back plain)

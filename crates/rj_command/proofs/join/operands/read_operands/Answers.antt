@@ -2,7 +2,8 @@ use Rattle.std.proofs.Common.{rules, subst, sym}
 use Rattle.std.proofs.lemmas.Result.{IfErr-weaker, IfOk-weaker}
 use Rattle.rj_columns.specs.Tables.{TableValue}
 use Rattle.rj_csv_io.specs.Ambiguous.{AreApart}
-use Rattle.rj_fault.specs.declared.fault.Side.TheVariants as side
+use Rattle.rj_csv_io.proofs.LawFacts.{null_texts_read_as_null}
+use Rattle.rj_line.specs.declared.fault.Side.TheVariants as side
 use Rattle.rj_command.specs.Operands.{IsJoinAsked}
 use Rattle.rj_command.specs.Sides.{IsTable}
 use Rattle.rj_command.proofs.ApartFacts.{table-apart}
@@ -57,7 +58,7 @@ pub returns-clause-apart : goal.returns-clause-apart
 returns-clause-apart g c =
     let left = c.in_ok-left in
     let right = c.in_ok-right in
-    let law = c.null_texts_read_as_null.ensures in
+    let law = null_texts_read_as_null in
     let q = c.args.request.now in
     let null = q.out_null.now in
     let Apart : TableValue → Type 0 = λ t. AreApart null t.rows in

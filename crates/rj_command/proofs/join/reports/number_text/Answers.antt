@@ -1,6 +1,6 @@
 use Rattle.std.proofs.Common.{◌≡◌, arith, rules, sym, subst}
 use Rattle.std.specs.Prelude.{IsUtf8}
-use Rattle.rj_decimal.specs.Written.{text_of}
+use Rattle.rj_columns.specs.NumbersWritten.{text_of}
 use Rattle.rj_command.proofs.NumberFacts.{text-utf8}
 use Rattle.rj_command.proofs.join.reports.number_text.Goals as goal
 

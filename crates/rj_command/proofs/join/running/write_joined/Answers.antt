@@ -3,7 +3,7 @@ use Rattle.std.specs.Prelude.{IfErr, Result}
 use Rattle.std.proofs.lemmas.Result.{err_from_is_err_and}
 use Rattle.rj_csv_io.specs.declared.write.WriteRefused.{WriteRefused}
 use Rattle.rj_csv_io.specs.declared.write.WriteRefused.TheVariants as refused
-use Rattle.rj_fault.specs.Faults.{write_fault}
+use Rattle.rj_line.specs.Faults.{write_fault}
 use Rattle.rj_command.specs.Runs.{IsUnwritten}
 use Rattle.rj_command.proofs.PreparedFacts.{never_failed, ready_of, unwritten_by, unwritten_of}
 use Rattle.rj_command.proofs.RunFacts.{of_fault}

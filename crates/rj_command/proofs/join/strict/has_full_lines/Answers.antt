@@ -1,4 +1,4 @@
-use Rattle.rj_strict.specs.declared.header.Header.TheVariants.{Above}
+use Rattle.rj_csv_io.specs.declared.strict.header.HeaderPlace.TheVariants.{Above}
 use Rattle.rj_command.proofs.join.strict.has_full_lines.Goals as goal
 
 pub returns-then-is_derived_in_parts : goal.returns-then-is_derived_in_parts

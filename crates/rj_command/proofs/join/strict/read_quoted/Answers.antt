@@ -1,8 +1,9 @@
 use Rattle.std.proofs.Common.{◌∙◌, ap, subst, sym, List, ℕ}
 use Rattle.csv.specs.Reading.{records, strip_bom}
-use Rattle.rj_strict.specs.Grammar.{Derives, file_text, records_of}
-use Rattle.rj_strict.specs.Reading.{config_of, quoted}
-use Rattle.rj_strict.specs.declared.header.Header.TheVariants.{First}
+use Rattle.rj_csv_io.specs.Grammar.{Derives, file_text, records_of}
+use Rattle.rj_csv_io.specs.StrictReading.{config_of, quoted}
+use Rattle.rj_csv_io.specs.declared.strict.header.HeaderPlace.TheVariants.{First}
+use Rattle.rj_csv_io.proofs.StrictLawFacts.{reads_quoted_records}
 use Rattle.rj_command.specs.Sides.{delimiter_of}
 use Rattle.rj_command.proofs.SideFacts.{same_reading}
 use Rattle.rj_command.proofs.join.strict.read_quoted.Goals as goal
@@ -17,5 +18,5 @@ returns-clause-reading g c = λ full file d.
     let spelled = c.in-Ok.ensures full file (subst (λ (n : ℕ). Derives n First full text file) (sym own) d) ∙ ap (λ (n : ℕ). file_text n (quoted file)) own in
     same_reading q s (records (config_of by) (strip_bom c.as_slice.result.now)) (records_of file) c.read_text.result
     (ap (λ (x : List ℕ). records (config_of by) (strip_bom x)) c.as_slice.ensures.value
-    ∙ (ap (λ (x : List ℕ). records (config_of by) x) spelled ∙ c.reads_quoted_records.ensures by First full text file c.delimiter_of.ensures.lawful d))
+    ∙ (ap (λ (x : List ℕ). records (config_of by) x) spelled ∙ reads_quoted_records by First full text file c.delimiter_of.ensures.lawful d))
     c.read_text.ensures.reading

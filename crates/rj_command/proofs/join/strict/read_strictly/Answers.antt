@@ -1,10 +1,11 @@
 use Rattle.std.proofs.Common.{◌≡◌, lit<, subst, List, ℕ}
 use Rattle.std.specs.Prelude.{None}
 use Rattle.csv.specs.Reading.{records, strip_bom}
-use Rattle.rj_strict.specs.Faults.{AreAbove, HasFault, row_at}
-use Rattle.rj_strict.specs.Grammar.{Derives, File, Line, lines_text, records_of}
-use Rattle.rj_strict.specs.Reading.{config_of}
-use Rattle.rj_strict.specs.declared.header.Header.TheVariants.{Above, First}
+use Rattle.rj_csv_io.specs.StrictFaults.{AreAbove, HasFault, row_at}
+use Rattle.rj_csv_io.specs.Grammar.{Derives, File, Line, lines_text, records_of}
+use Rattle.rj_csv_io.specs.StrictReading.{config_of}
+use Rattle.rj_csv_io.specs.declared.strict.header.HeaderPlace.TheVariants.{Above, First}
+use Rattle.rj_csv_io.proofs.StrictLawFacts.{derived_with_header, reads_all_records}
 use Rattle.rj_command.specs.Sides.{delimiter_of}
 use Rattle.rj_command.proofs.SideFacts.{lines_derived, records_fault, records_table, same_reading, text_fault}
 use Rattle.rj_command.proofs.join.strict.read_strictly.Goals as goal
@@ -17,8 +18,8 @@ returns-then-has_full_lines-clause-table g c =
     let text = strip_bom c.args.text.now in
     let own = c.delimiter_of-delimiter.ensures in
     let found = subst (λ (n : ℕ). (f : File) × Derives n (Above 2) c.args.full text f) own.value (c.has_full_lines.ensures c.if-has_full_lines.true) in
-    let whole = c.derived_with_header.ensures by 2 c.args.full text found.0 (lit< tt) own.lawful found.1 in
-    let same = c.reads_all_records.ensures by (Above 2) c.args.full text found.0 own.lawful found.1 (lit< tt) in
+    let whole = derived_with_header by 2 c.args.full text found.0 (lit< tt) own.lawful found.1 in
+    let same = reads_all_records by (Above 2) c.args.full text found.0 own.lawful found.1 (lit< tt) in
     records_table c.args.full q s c.args.text.now found.0 c.read_text.result whole
     (same_reading q s (records (config_of by) text) (records_of found.0) c.read_text.result same c.read_text.ensures.reading)
 
@@ -30,8 +31,8 @@ returns-then-has_full_lines-clause-fault g c =
     let text = strip_bom c.args.text.now in
     let own = c.delimiter_of-delimiter.ensures in
     let found = subst (λ (n : ℕ). (f : File) × Derives n (Above 2) c.args.full text f) own.value (c.has_full_lines.ensures c.if-has_full_lines.true) in
-    let whole = c.derived_with_header.ensures by 2 c.args.full text found.0 (lit< tt) own.lawful found.1 in
-    let same = c.reads_all_records.ensures by (Above 2) c.args.full text found.0 own.lawful found.1 (lit< tt) in
+    let whole = derived_with_header by 2 c.args.full text found.0 (lit< tt) own.lawful found.1 in
+    let same = reads_all_records by (Above 2) c.args.full text found.0 own.lawful found.1 (lit< tt) in
     records_fault c.args.full q s c.args.text.now found.0 c.read_text.result whole
     (same_reading q s (records (config_of by) text) (records_of found.0) c.read_text.result same c.read_text.ensures.reading)
 

@@ -5,7 +5,7 @@ use Rattle.crossbeam_queue.specs.Fifo.{Held}
 use Rattle.rj_exchange.specs.declared.boxes.Stub.{Stub}
 use Rattle.rj_exchange.specs.declared.queue.Trace.{Trace}
 use Rattle.rj_exchange.specs.declared.queue.Where.{Where}
-use Rattle.rj_ledger.specs.declared.parcel.Parcel.{Parcel}
+use Rattle.rj_exchange.specs.declared.ledger.parcel.Parcel.{Parcel}
 use Rattle.rj_exchange.specs.Passing.{HeldAt}
 use Rattle.rj_exchange.specs.Boxes.{Queue, sent_of, where_at, queue_of, IsStubOf}
 use Rattle.rj_exchange.proofs.Stubs.{kept, told, was}

@@ -1,9 +1,0 @@
-pub mod Shifts
-pub mod Orders
-pub mod Leasts
-pub mod Digits
-pub mod Sizes
-pub mod Texts
-pub mod Values
-pub mod RoundTrips
-pub mod Laws

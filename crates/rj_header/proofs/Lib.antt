@@ -1,7 +1,0 @@
-pub mod EndFacts
-mod RecordFacts
-mod ColumnFacts
-mod NumberFacts
-mod FreeFacts
-mod LawfulFacts
-mod NamingFacts

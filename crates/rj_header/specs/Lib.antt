@@ -1,4 +1,0 @@
-pub mod Named
-pub mod Ends
-pub mod Completed
-pub mod Columns

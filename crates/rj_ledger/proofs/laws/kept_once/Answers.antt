@@ -1,5 +1,0 @@
-use Rattle.rj_ledger.proofs.DeliveryFacts.{all_kept_once}
-use Rattle.rj_ledger.proofs.laws.kept_once.Goals as goal
-
-pub returns : goal.returns
-returns c = all_kept_once

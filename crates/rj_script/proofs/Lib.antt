@@ -1,4 +1,0 @@
-pub mod NumeralFacts
-pub mod ReadingFacts
-pub mod ReportFacts
-pub mod SplitFacts

@@ -1,6 +1,0 @@
-use Rattle.std.proofs.Common.{◌≡◌, ◌==◌, false, take}
-use Rattle.std.specs.Prelude.{All}
-use Rattle.rj_script.proofs.lines.split_once.Given as goal
-
-abbrev pub invariant-loop-at : goal.invariant-loop-at
-invariant-loop-at l = All (λ b. (b == l.byte) ≡ false) (take l.at l.rest)

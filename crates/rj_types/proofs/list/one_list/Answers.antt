@@ -1,5 +1,0 @@
-use Rattle.rj_types.proofs.OneList.{one_list}
-use Rattle.rj_types.proofs.list.one_list.Goals as goal
-
-pub returns : goal.returns
-returns c = one_list

@@ -1,7 +1,0 @@
-pub mod Columns
-pub mod Labels
-pub mod Lists
-pub mod Scanning
-pub mod Selected
-pub mod Separated
-pub mod Words
