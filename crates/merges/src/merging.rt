@@ -1,7 +1,7 @@
 //! Files that are merged as the words of the command line say.
 
-ghost use Rattle.std.specs.Prelude.{◌≡◌, ◌≢◌, ◌<◌, ◌^◌, Err, IfErr, OnOk, map, vec_len};
-ghost use Rattle.rj_csv_io.specs.Devices.{after_failure};
+ghost use Rattle.std.specs.Prelude.{◌≡◌, ◌<◌, ◌^◌, IfErr, OnOk, map, vec_len};
+ghost use Rattle.rj_csv_io.specs.Devices.{CountsFailure};
 ghost use Rattle.merges.specs.Lines.{IsMergeLine};
 ghost use Rattle.merges.specs.Merges.{IsFailure, IsMergeOfWords, IsRefusalOfLine, names};
 ghost use Rattle.merges.specs.declared.failure.Failure.{Failure};
@@ -29,8 +29,7 @@ fn merge_line<P: Opener, O: Output>(
         (λ texts. GotMerge line.now.how line.now.copies.items texts (O.told output.old) (O.told output.new))) }
     ensures sound { OnOk result (ForNamed (P.opens opener.now) P.Reader.remaining (names line.now) (HaveNoFault line.now.how)) }
     ensures refusal { IfErr result (IsRefusalOfLine (P.opens opener.now) (P.shut opener.now) P.Reader.remaining O.told output.old output.new line.now) }
-    ensures device { result ≡ Err Failure.WriteDevice → O.count output.new ≡ after_failure (O.count output.old) }
-    ensures kept { result ≢ Err Failure.WriteDevice → O.count output.new ≡ O.count output.old }
+    ensures count { CountsFailure result Failure.WriteDevice (O.count output.new) (O.count output.old) }
 {
     let files = line.files.as_slice();
     match merge_named(
@@ -63,8 +62,7 @@ pub fn merge_words<P: Opener, O: Output>(
     ensures merge { OnOk result (IsMergeOfWords (P.opens opener.now) P.Reader.remaining (map (λ w. w.now) words.now) (O.told output.old) (O.told output.new)) }
     ensures failure { IfErr result (IsFailure (P.opens opener.now) (P.shut opener.now) P.Reader.remaining O.told output.old output.new (map (λ w. w.now) words.now)) }
     ensures unchanged { ((line : Line) → IsMergeLine (map (λ w. w.now) words.now) line → ⊥) → output.new ≡ output.old }
-    ensures device { result ≡ Err Failure.WriteDevice → O.count output.new ≡ after_failure (O.count output.old) }
-    ensures kept { result ≢ Err Failure.WriteDevice → O.count output.new ≡ O.count output.old }
+    ensures count { CountsFailure result Failure.WriteDevice (O.count output.new) (O.count output.old) }
 {
     let matches = match parse_words(alloc, words) {
         Ok(matches) => matches,

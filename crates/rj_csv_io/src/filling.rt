@@ -1,8 +1,8 @@
 //! Reading the bytes of a device, piece by piece.
 
-ghost use Rattle.std.specs.Prelude.{◌≡◌, ◌≢◌, ◌<◌, ◌≤◌, ◌+◌, ◌^◌, ℕ, List, Option, Ok, Err, true, false, [], length, take, drop, vec_len, IfOk, IfErr, IfSome, OnOk, OnErr};
+ghost use Rattle.std.specs.Prelude.{◌≡◌, ◌≢◌, ◌<◌, ◌≤◌, ◌+◌, ◌^◌, ℕ, List, Option, Ok, true, false, [], length, take, drop, vec_len, IfOk, IfErr, IfSome, OnOk, OnErr};
 ghost use Rattle.std.specs.Io.KnownBytes.{Consumes, IsAtEnd};
-ghost use Rattle.rj_csv_io.specs.Devices.{after_failure};
+ghost use Rattle.rj_csv_io.specs.Devices.{CountsFailure, after_failure};
 
 use crate::input::Input;
 use crate::output::Failed;
@@ -35,8 +35,7 @@ fn read_piece<I: Input>(input: &mut I, bytes: &mut Vec<u8>) -> Result<bool, Read
     ensures bound { OnOk result (vec_len bytes.new ≤ vec_len bytes.old + 2 ^ 16) }
     ensures more { result ≡ Ok true → vec_len bytes.old < vec_len bytes.new }
     ensures end { result ≡ Ok false → IsAtEnd (I.tells input.new) }
-    ensures device { result ≡ Err ReadRefused.ReadDevice → I.count input.new ≡ after_failure (I.count input.old) }
-    ensures kept { result ≢ Err ReadRefused.ReadDevice → I.count input.new ≡ I.count input.old }
+    ensures count { CountsFailure result ReadRefused.ReadDevice (I.count input.new) (I.count input.old) }
     ensures fault { IfErr result (λ e. e ≢ ReadRefused.Memory → e ≡ ReadRefused.ReadDevice) }
 {
     let filled = bytes.len();
@@ -71,8 +70,7 @@ pub fn read_up_to<I: Input>(
     ensures bound { OnOk result (vec_len bytes.old < vec_len bytes.new → vec_len bytes.new < size + 2 ^ 16) }
     ensures end { result ≡ Ok true → IsAtEnd (I.tells input.new) }
     ensures full { result ≡ Ok false → size ≤ vec_len bytes.new }
-    ensures device { result ≡ Err ReadRefused.ReadDevice → I.count input.new ≡ after_failure (I.count input.old) }
-    ensures kept { result ≢ Err ReadRefused.ReadDevice → I.count input.new ≡ I.count input.old }
+    ensures count { CountsFailure result ReadRefused.ReadDevice (I.count input.new) (I.count input.old) }
     ensures fault { IfErr result (λ e. e ≢ ReadRefused.Memory → e ≡ ReadRefused.ReadDevice) }
 {
     while bytes.len() < size {
@@ -101,8 +99,7 @@ fn likely_room(alloc: Global, size: u64) -> Vec<u8>
 pub fn read_all<I: Input>(alloc: Global, input: &mut I) -> Result<Vec<u8>, ReadRefused>
     ensures bytes { IfOk result (λ v. IfSome (I.tells input.old) (λ xs. v.items ≡ xs)) }
     ensures end { OnOk result (IsAtEnd (I.tells input.new)) }
-    ensures device { result ≡ Err ReadRefused.ReadDevice → I.count input.new ≡ after_failure (I.count input.old) }
-    ensures kept { result ≢ Err ReadRefused.ReadDevice → I.count input.new ≡ I.count input.old }
+    ensures count { CountsFailure result ReadRefused.ReadDevice (I.count input.new) (I.count input.old) }
     ensures fault { IfErr result (λ e. e ≢ ReadRefused.Memory → e ≡ ReadRefused.ReadDevice) }
 {
     let mut bytes = likely_room(alloc, input.likely_size());

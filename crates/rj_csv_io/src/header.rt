@@ -1,9 +1,8 @@
 //! How the reading of a table begins: its reader, its header, and the room for its rows.
 
-ghost use Rattle.std.specs.Prelude.{◌≡◌, ◌≢◌, ◌≤◌, ◌*◌, [], length, map, IfOk, IfErr, Ok, Err, Some};
-ghost use Rattle.csv.specs.Reading.{records, strip_bom};
+ghost use Rattle.std.specs.Prelude.{◌≡◌, ◌≢◌, ◌≤◌, ◌*◌, [], length, map, IfOk, IfErr, IfSome, Ok, Err};
 ghost use Rattle.csv.specs.Records.{fields_of};
-ghost use Rattle.rj_csv_io.specs.StrictReading.{config_of};
+ghost use Rattle.rj_csv_io.specs.Cuts.{records_in};
 ghost use Rattle.rj_columns.specs.Names.{empty_table};
 ghost use Rattle.rj_columns.specs.declared.refused.BuildRefused.{BuildRefused};
 ghost use Rattle.rj_csv_io.specs.Remaining.{records_remaining, IsBetween};
@@ -14,24 +13,21 @@ use crate::strict::Delimiter;
 use csv::{ByteRecord, Reader, ReaderBuilder};
 use rj_columns::{BuildRefused, ColumnType, TableBuilder};
 use std::alloc::{AllocError, Global};
+use std::io::Read;
 
 // How many of the first bytes are used to estimate the length of a line.
 const SAMPLE: usize = 65536;
 
-/// A reader of all the records of these bytes.
-pub(crate) fn open_reader<'a>(
-    alloc: Global,
-    bytes: &'a [u8],
-    delimiter: Delimiter,
-) -> Reader<&'a [u8]>
-    ensures between { IsBetween (λ s. Some s.now) result }
-    ensures records { records_remaining (λ s. Some s.now) result ≡ records (config_of delimiter) (strip_bom bytes.now) }
+/// A reader of all records of a text, its header among them.
+pub fn open_reader<R: Read>(alloc: Global, text: R, delimiter: Delimiter) -> Reader<R>
+    ensures between { IfSome (R.remaining text) (λ _. IsBetween R.remaining result) }
+    ensures records { IfSome (R.remaining text) (λ bytes. records_remaining R.remaining result ≡ records_in delimiter bytes) }
 {
     ReaderBuilder::new()
         .delimiter(delimiter.byte())
         .has_headers(false)
         .flexible(true)
-        .from_reader(alloc, bytes)
+        .from_reader(alloc, text)
 }
 
 /// The fields of a record, in order.

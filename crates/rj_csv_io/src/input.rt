@@ -1,11 +1,12 @@
 //! Devices that give bytes.
 
-ghost use Rattle.std.specs.Prelude.{◌≡◌, ◌<◌, ◌≤◌, ℕ, List, Option, None, take, length, IfOk, IfSome, OnOk, OnErr};
+ghost use Rattle.std.specs.Prelude.{◌≡◌, ◌<◌, ◌≤◌, ℕ, List, Option, None, take, length, IfOk, OnOk, OnErr};
 ghost use Rattle.std.specs.Io.KnownBytes.{Consumes, IsAtEnd};
 ghost use Rattle.rj_csv_io.specs.Devices.{after_failure, likely_size_of, read_failures_of, reader_of};
 
 use crate::output::Failed;
-use std::io::{ErrorKind, Read};
+use crate::retrying::read_again;
+use std::io::Read;
 
 /// A device that gives bytes and counts its failures.
 pub trait Input {
@@ -75,34 +76,15 @@ impl<R: Read> CountedReader<R> {
     }
 }
 
-// The next bytes of a reader. Reads that a signal interrupts are repeated.
-fn read_some<R: Read>(reader: &mut R, buffer: &mut [u8]) -> Option<usize>
-    ensures bound { IfSome result (λ k. k ≤ length buffer.new) }
-    ensures bytes { IfSome result (λ k. Consumes (R.remaining reader.old) (R.remaining reader.new) (take k buffer.new)) }
-    ensures end { IfSome result (λ k. k ≡ 0 → 0 < length buffer.new → IsAtEnd (R.remaining reader.new)) }
-{
-    for _turn in 0..u64::MAX {
-        match reader.read(buffer) {
-            Ok(k) => return Some(k),
-            Err(e) => {
-                if e.kind() != ErrorKind::Interrupted {
-                    return None;
-                }
-            }
-        }
-    }
-    None
-}
-
 impl<R: Read> Input for CountedReader<R> {
     ghost tells = { λ c. R.remaining c.reader };
 
     ghost count = { λ c. c.failures };
 
     fn get(&mut self, buffer: &mut [u8]) -> Result<usize, Failed> {
-        match read_some(&mut self.reader, buffer) {
-            Some(k) => Ok(k),
-            None => {
+        match read_again(&mut self.reader, buffer) {
+            Ok(k) => Ok(k),
+            Err(_) => {
                 self.failures = self.failures.saturating_add(1);
                 Err(Failed)
             }

@@ -30,6 +30,7 @@ mod read_rows;
 mod read_whole;
 mod records;
 mod refused;
+mod retrying;
 mod stretches;
 pub mod strict;
 mod text;
@@ -45,6 +46,7 @@ pub use ends::{RowEnds, null_end, texts_with_ends};
 pub use fields::is_null_field;
 pub use filling::{read_all, read_up_to};
 pub use format::{InputFormat, OutputFormat};
+pub use header::open_reader;
 pub use input::{CountedReader, Input};
 pub use laws::{
     cells_read_back, mark_is_of_the_first_name, null_texts_read_as_null, read_cells_read_back,
@@ -58,6 +60,7 @@ pub use read_parts::read_table_in_parts;
 pub use read_whole::read_table;
 pub use records::{RowTexts, row_texts};
 pub use refused::ReadRefused;
+pub use retrying::RetryingReader;
 pub use stretches::last_cut;
 pub use texts::{texts_of_rows, write_texts};
 pub use write::{WriteRefused, write_rows};

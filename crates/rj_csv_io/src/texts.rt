@@ -1,10 +1,10 @@
 //! Texts of rows that are made first, and written under a header later.
 
-ghost use Rattle.std.specs.Prelude.{◌≡◌, ◌≢◌, ◌++◌, Err, map, IfOk, OnOk, OnErr};
+ghost use Rattle.std.specs.Prelude.{◌≡◌, ◌++◌, Err, map, IfOk, OnOk, OnErr};
 ghost use Rattle.std.specs.Io.KnownBytes.{Appends};
 ghost use Rattle.std.specs.List.{concat};
 ghost use Rattle.csv.specs.Writing.{row_text};
-ghost use Rattle.rj_csv_io.specs.Devices.{after_failure};
+ghost use Rattle.rj_csv_io.specs.Devices.{CountsFailure, after_failure};
 ghost use Rattle.rj_csv_io.specs.Shown.{rows_text, shown, writer_of};
 
 use crate::format::OutputFormat;
@@ -76,8 +76,7 @@ pub fn write_texts<O: Output>(
     ensures ok { OnOk result (Appends (O.told output.old) (O.told output.new)
         (row_text (writer_of delimiter) (map (λ n. n.now) header.now) ++ concat (map (λ t. t.items) texts.now))) }
     ensures memory { result ≡ Err WriteRefused.Memory → output.new ≡ output.old }
-    ensures device { result ≡ Err WriteRefused.WriteDevice → O.count output.new ≡ after_failure (O.count output.old) }
-    ensures kept { result ≢ Err WriteRefused.WriteDevice → O.count output.new ≡ O.count output.old }
+    ensures count { CountsFailure result WriteRefused.WriteDevice (O.count output.new) (O.count output.old) }
 {
     let Ok(text) = text_of_header(alloc, header, delimiter) else {
         return Err(WriteRefused::Memory);

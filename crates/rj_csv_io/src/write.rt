@@ -1,8 +1,8 @@
 //! Writing a header and the rows of a source.
 
-ghost use Rattle.std.specs.Prelude.{◌≡◌, ◌≢◌, map, length, IsTrue, OnOk, IfOk};
+ghost use Rattle.std.specs.Prelude.{◌≡◌, map, length, IsTrue, OnOk, IfOk};
 ghost use Rattle.std.specs.Io.KnownBytes.{Appends};
-ghost use Rattle.rj_csv_io.specs.Devices.{after_failure};
+ghost use Rattle.rj_csv_io.specs.Devices.{CountsFailure};
 ghost use Rattle.rj_csv_io.specs.Shown.{table_text};
 ghost use Rattle.rj_csv_io.specs.Tables.{is_null_text};
 
@@ -56,8 +56,7 @@ pub fn write_rows<O: Output, S: RowSource>(
     ensures ok { OnOk result (Appends (O.told output.old) (O.told output.new)
         (table_text format.now.delimiter format.now.null.now (map (λ n. n.now) header.now) (S.contents source.now))) }
     ensures memory { result ≡ Err WriteRefused.Memory → output.new ≡ output.old }
-    ensures device { result ≡ Err WriteRefused.WriteDevice → O.count output.new ≡ after_failure (O.count output.old) }
-    ensures kept { result ≢ Err WriteRefused.WriteDevice → O.count output.new ≡ O.count output.old }
+    ensures count { CountsFailure result WriteRefused.WriteDevice (O.count output.new) (O.count output.old) }
 {
     let Ok(text) = text_of_rows(alloc, header, source, format) else {
         return Err(WriteRefused::Memory);

@@ -1,9 +1,9 @@
 //! Writing a header and the rows of a source, with texts made by several threads.
 
-ghost use Rattle.std.specs.Prelude.{◌≡◌, ◌≢◌, ◌<◌, ◌≤◌, ◌+◌, length, max, map, IfOk, OnOk, Err, IsTrue};
+ghost use Rattle.std.specs.Prelude.{◌≡◌, ◌<◌, ◌≤◌, ◌+◌, length, max, map, IfOk, OnOk, Err, IsTrue};
 ghost use Rattle.std.specs.Io.KnownBytes.{Appends};
 ghost use Rattle.std.specs.List.{concat};
-ghost use Rattle.rj_csv_io.specs.Devices.{after_failure};
+ghost use Rattle.rj_csv_io.specs.Devices.{CountsFailure};
 ghost use Rattle.rj_csv_io.specs.RowParts.{part_start, IsPartText, ArePartTexts};
 ghost use Rattle.rj_csv_io.specs.Shown.{range_text, rows_text, shown, table_text};
 ghost use Rattle.rj_csv_io.specs.Tables.{is_null_text};
@@ -140,8 +140,7 @@ pub fn write_rows_in_parts<R: Threads + Sync, O: Output, S: RowSource + Sync>(
     ensures ok { OnOk result (Appends (O.told output.old) (O.told output.new)
         (table_text format.now.delimiter format.now.null.now (map (λ n. n.now) header.now) (S.contents source.now))) }
     ensures memory { result ≡ Err WriteRefused.Memory → output.new ≡ output.old }
-    ensures device { result ≡ Err WriteRefused.WriteDevice → O.count output.new ≡ after_failure (O.count output.old) }
-    ensures kept { result ≢ Err WriteRefused.WriteDevice → O.count output.new ≡ O.count output.old }
+    ensures count { CountsFailure result WriteRefused.WriteDevice (O.count output.new) (O.count output.old) }
 {
     let parts = part_count(source.rows(), parts);
     let Ok(texts) = texts_of_parts(rt, alloc, source, format, parts) else {

@@ -1,8 +1,8 @@
 //! Writing the rows of a source after others.
 
-ghost use Rattle.std.specs.Prelude.{◌≡◌, ◌≢◌, map, IsTrue, OnOk, IfOk};
+ghost use Rattle.std.specs.Prelude.{◌≡◌, map, IsTrue, OnOk, IfOk};
 ghost use Rattle.std.specs.Io.KnownBytes.{Appends};
-ghost use Rattle.rj_csv_io.specs.Devices.{after_failure};
+ghost use Rattle.rj_csv_io.specs.Devices.{CountsFailure};
 ghost use Rattle.rj_csv_io.specs.Shown.{rows_text, shown};
 ghost use Rattle.rj_csv_io.specs.Tables.{is_null_text};
 
@@ -42,8 +42,7 @@ pub fn write_more_rows<O: Output, S: RowSource>(
     ensures ok { OnOk result (Appends (O.told output.old) (O.told output.new)
         (rows_text format.now.delimiter (map (map (shown format.now.null.now)) (S.contents source.now)))) }
     ensures memory { result ≡ Err WriteRefused.Memory → output.new ≡ output.old }
-    ensures device { result ≡ Err WriteRefused.WriteDevice → O.count output.new ≡ after_failure (O.count output.old) }
-    ensures kept { result ≢ Err WriteRefused.WriteDevice → O.count output.new ≡ O.count output.old }
+    ensures count { CountsFailure result WriteRefused.WriteDevice (O.count output.new) (O.count output.old) }
 {
     let Ok(text) = text_of_more(alloc, source, format) else {
         return Err(WriteRefused::Memory);

@@ -1,9 +1,9 @@
 //! Scripts of arrivals at a partition of an exchange: their lines read as parcels, and what is
 //! printed for them.
 
-ghost use Rattle.std.specs.Prelude.{Err, IfErr, ◌≢◌, ◌≡◌, ◌++◌, ◌∷◌, [], OnOk, IfOk, string_bytes, length, is_some};
+ghost use Rattle.std.specs.Prelude.{Err, IfErr, ◌≡◌, ◌++◌, ◌∷◌, [], OnOk, IfOk, string_bytes, length, is_some};
 ghost use Rattle.std.specs.Io.KnownBytes.{Appends};
-ghost use Rattle.rj_csv_io.specs.Devices.{after_failure};
+ghost use Rattle.rj_csv_io.specs.Devices.{CountsFailure};
 ghost use Rattle.rj_exchange.specs.Ledgers.{after_all};
 ghost use Rattle.rj_line.specs.Faults.{IsOfWriting};
 ghost use Rattle.rj_line.specs.Script.{reading, readings, parcels_of, are_readable};
@@ -119,8 +119,7 @@ pub fn arrivals<W: Output>(
     ensures readable { IfOk result (λ r. r ≡ are_readable (readings script.now)) }
     ensures faults { IfErr result IsOfWriting }
     ensures memory { result ≡ Err Fault.Memory → writer.new ≡ writer.old }
-    ensures device { result ≡ Err Fault.WriteDevice → W.count writer.new ≡ after_failure (W.count writer.old) }
-    ensures kept { result ≢ Err Fault.WriteDevice → W.count writer.new ≡ W.count writer.old }
+    ensures count { CountsFailure result Fault.WriteDevice (W.count writer.new) (W.count writer.old) }
 {
     let Ok((text, readable)) = print_script(alloc, script, partition, senders, block, gaps) else {
         return Err(Fault::Memory);

@@ -5,12 +5,12 @@ use Rattle.std.proofs.lemmas.Bool.{false≢true}
 use Rattle.std.proofs.lemmas.List.{get_or-map, length-map, map-append, take_all, take_more}
 use Rattle.rj_merge.specs.declared.copies.Copies.{Copies}
 use Rattle.rj_merge.specs.declared.copies.MergeInput.{MergeInput}
-use Rattle.rj_merge.specs.declared.retrying.RetryingReader.{RetryingReader}
+use Rattle.rj_csv_io.specs.declared.retrying.RetryingReader.{RetryingReader}
 use Rattle.rj_merge.specs.declared.refused.MergeRefused.{MergeRefused}
 use Rattle.rj_merge.specs.declared.refused.MergeRefused.TheVariants as refused
 use Rattle.rj_merge.specs.Inputs.{TellTexts, copies_of, is_input}
 use Rattle.rj_merge.specs.Named.{AreOpened, IsOpenFault, IsShut, OpenTexts, OpensNothing}
-use Rattle.rj_merge.specs.Retrying.{reader_of}
+use Rattle.rj_csv_io.specs.Devices.{reader_retried}
 use Rattle.rj_merge.specs.Sources.{TellsAmong, is_outside}
 use Rattle.rj_merge.proofs.ToldFacts.{input_within}
 
@@ -19,7 +19,7 @@ texts_of names = map (λ n. n.now) names
 
 module _ {R : Type 0} where
   opened_more : (opens : List ℕ → R → Type 0) (names : List (List ℕ)) (inputs : List (MergeInput (RetryingReader R))) (name : List ℕ) (i : MergeInput (RetryingReader R))
-      → AreOpened opens names inputs → opens name (reader_of i.reader) → AreOpened opens (names ++ name ∷ []) (inputs ++ i ∷ [])
+      → AreOpened opens names inputs → opens name (reader_retried i.reader) → AreOpened opens (names ++ name ∷ []) (inputs ++ i ∷ [])
   opened_more opens [] [] name i all one = (one, tt)
   opened_more opens [] (j ∷ inputs) name i all one = absurd all
   opened_more opens (n ∷ names) [] name i all one = absurd all
@@ -27,7 +27,7 @@ module _ {R : Type 0} where
 
   -- one name more is opened
   pub opened_step : (opens : List ℕ → R → Type 0) (names : List (Bor (List ℕ))) (at : ℕ) (d : Bor (List ℕ)) (inputs : List (MergeInput (RetryingReader R))) (i : MergeInput (RetryingReader R)) (r : R) → at < length names
-      → AreOpened opens (texts_of (take at names)) inputs → reader_of i.reader ≡ r → opens (slice_index_or names at d).now r → AreOpened opens (texts_of (take (at + 1) names)) (inputs ++ i ∷ [])
+      → AreOpened opens (texts_of (take at names)) inputs → reader_retried i.reader ≡ r → opens (slice_index_or names at d).now r → AreOpened opens (texts_of (take (at + 1) names)) (inputs ++ i ∷ [])
   opened_step opens names at d inputs i r h all same one =
       subst (λ l. AreOpened opens l (inputs ++ i ∷ [])) (sym (ap texts_of (take_more names at d h) ∙ map-append (λ (n : Bor (List ℕ)). n.now) (take at names) (slice_index_or names at d ∷ [])))
       (opened_more opens (texts_of (take at names)) inputs (slice_index_or names at d).now i all (subst (opens (slice_index_or names at d).now) (sym same) one))
@@ -39,14 +39,14 @@ module _ {R : Type 0} where
 
   -- what was opened tells the texts that its names open
   pub opened_tell : (opens : List ℕ → R → Type 0) (known : R → Option (List ℕ)) (names texts : List (List ℕ)) (inputs : List (MergeInput (RetryingReader R)))
-      → AreOpened opens names inputs → OpenTexts opens known names texts → TellTexts (λ p. known (reader_of p)) inputs texts
+      → AreOpened opens names inputs → OpenTexts opens known names texts → TellTexts (λ p. known (reader_retried p)) inputs texts
   opened_tell opens known [] [] [] all told = refl
   opened_tell opens known [] (text ∷ texts) inputs all told = absurd told
   opened_tell opens known [] [] (j ∷ inputs) all told = absurd all
   opened_tell opens known (n ∷ names) [] inputs all told = absurd told
   opened_tell opens known (n ∷ names) (text ∷ texts) [] all told = absurd all
   opened_tell opens known (n ∷ names) (text ∷ texts) (j ∷ inputs) all told =
-      ap₂ (λ (t : Option (List ℕ)) (ts : List (Option (List ℕ))). t ∷ ts) (told.0 (reader_of j.reader) all.0) (opened_tell opens known names texts inputs all.1 told.1)
+      ap₂ (λ (t : Option (List ℕ)) (ts : List (Option (List ℕ))). t ∷ ts) (told.0 (reader_retried j.reader) all.0) (opened_tell opens known names texts inputs all.1 told.1)
 
   -- a name that opens nothing is behind those that were opened
   pub opened_before : (opens : List ℕ → R → Type 0) (names : List (List ℕ)) (count number : ℕ) (inputs : List (MergeInput (RetryingReader R)))
@@ -58,7 +58,7 @@ module _ {R : Type 0} where
     where
       by_number : ((k : ℕ) → OpensNothing opens names k → count < k) → (k : ℕ) → OpensNothing opens (name ∷ names) k → suc count < k
       by_number later zero w = absurd (let low = w.first in omega (arith, low))
-      by_number later (suc zero) w = absurd (w.none (reader_of i.reader) all.0)
+      by_number later (suc zero) w = absurd (w.none (reader_retried i.reader) all.0)
       by_number later (suc (suc k)) w =
           let above : suc (suc k) - 1 ≡ suc k = omega arith in
           let below : suc k - 1 ≡ k = omega arith in

@@ -9,5 +9,4 @@ pub mod Texts
 pub mod Headers
 pub mod Inputs
 pub mod MergedTexts
-pub mod Retrying
 pub mod Named

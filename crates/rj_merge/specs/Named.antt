@@ -3,15 +3,15 @@ use Rattle.std.specs.Prelude.{◌≡◌, ◌-◌, ◌≤◌, ℕ, List, [], ◌�
 use Rattle.rj_merge.specs.declared.copies.MergeInput.{MergeInput}
 use Rattle.rj_merge.specs.declared.refused.MergeRefused.{MergeRefused}
 use Rattle.rj_merge.specs.declared.refused.MergeRefused.TheVariants as refused
-use Rattle.rj_merge.specs.declared.retrying.RetryingReader.{RetryingReader}
-use Rattle.rj_merge.specs.Retrying.{reader_of}
+use Rattle.rj_csv_io.specs.declared.retrying.RetryingReader.{RetryingReader}
+use Rattle.rj_csv_io.specs.Devices.{reader_retried}
 
 -- each input reads what its name opens
 abbrev pub AreOpened : {R : Type 0} → (List ℕ → R → Type 0) → List (List ℕ) → List (MergeInput (RetryingReader R)) → Type 0
 AreOpened opens [] [] = Unit {0}
 AreOpened opens [] (i ∷ inputs) = ⊥
 AreOpened opens (name ∷ names) [] = ⊥
-AreOpened opens (name ∷ names) (i ∷ inputs) = opens name (reader_of i.reader) × AreOpened opens names inputs
+AreOpened opens (name ∷ names) (i ∷ inputs) = opens name (reader_retried i.reader) × AreOpened opens names inputs
 
 -- whatever the names open tells these texts
 abbrev pub OpenTexts : {R : Type 0} → (List ℕ → R → Type 0) → (R → Option (List ℕ)) → List (List ℕ) → List (List ℕ) → Type 0

@@ -3,7 +3,7 @@
 ghost use Rattle.std.specs.Prelude.{◌≡◌, ◌≢◌, ◌++◌, [], List, ℕ, Option, Err, IfErr, OnOk};
 ghost use Rattle.std.specs.Io.KnownBytes.{Appends};
 ghost use Rattle.csv.specs.Writing.{row_text};
-ghost use Rattle.rj_csv_io.specs.Devices.{after_failure};
+ghost use Rattle.rj_csv_io.specs.Devices.{CountsFailure};
 ghost use Rattle.rj_csv_io.specs.Shown.{writer_of};
 ghost use Rattle.rj_csv_io.specs.Written.{HasWritten};
 ghost use Rattle.rj_merge.specs.declared.refused.MergeRefused.{MergeRefused};
@@ -42,8 +42,7 @@ pub(crate) fn put_block<O: Output>(
 ) -> Result<(), MergeTextsRefused>
     ensures told { (start : Option (List ℕ)) → (text : List ℕ) → IsTold delimiter start text block.old (O.told output.old)
         → OnOk result (Appends start (O.told output.new) text × HasWritten delimiter block.new [] []) }
-    ensures device { result ≡ Err MergeTextsRefused.WriteDevice → O.count output.new ≡ after_failure (O.count output.old) }
-    ensures kept { result ≢ Err MergeTextsRefused.WriteDevice → O.count output.new ≡ O.count output.old }
+    ensures count { CountsFailure result MergeTextsRefused.WriteDevice (O.count output.new) (O.count output.old) }
     ensures fault { IfErr result (λ e. e ≢ MergeTextsRefused.WriteDevice → e ≡ MergeTextsRefused.Merge MergeRefused.Memory) }
     ensures unput { (e : MergeRefused) → result ≡ Err (MergeTextsRefused.Merge e) → output.new ≡ output.old }
 {
@@ -71,8 +70,7 @@ pub(crate) fn add_row<O: Output>(
 ) -> Result<(), MergeTextsRefused>
     ensures told { (start : Option (List ℕ)) → (text : List ℕ) → IsTold delimiter start text block.old (O.told output.old)
         → OnOk result (IsTold delimiter start (text ++ row_text (writer_of delimiter) row.now) block.new (O.told output.new)) }
-    ensures device { result ≡ Err MergeTextsRefused.WriteDevice → O.count output.new ≡ after_failure (O.count output.old) }
-    ensures kept { result ≢ Err MergeTextsRefused.WriteDevice → O.count output.new ≡ O.count output.old }
+    ensures count { CountsFailure result MergeTextsRefused.WriteDevice (O.count output.new) (O.count output.old) }
     ensures fault { IfErr result (λ e. e ≢ MergeTextsRefused.WriteDevice → e ≡ MergeTextsRefused.Merge MergeRefused.Memory) }
     ensures unput { (e : MergeRefused) → result ≡ Err (MergeTextsRefused.Merge e) → output.new ≡ output.old }
 {

@@ -18,7 +18,6 @@ mod opening;
 mod options;
 mod place;
 mod refused;
-mod retrying;
 mod source;
 mod texts;
 
@@ -30,7 +29,6 @@ pub use named::{Opener, merge_named};
 pub use options::MergeOptions;
 pub use place::{Place, Placed};
 pub use refused::{MergeRefused, MergeTextsRefused};
-pub use retrying::RetryingReader;
 pub use rj_settings::RowOrder;
 pub use source::Source;
 pub use texts::merge_texts;

@@ -2,7 +2,7 @@
 
 ghost use Rattle.std.specs.Prelude.{◌≡◌, ◌≢◌, ◌<◌, ◌^◌, ◌⊎◌, true, ℕ, List, Err, IfOk, IfErr, OnOk, OnErr, length, map, vec_len};
 ghost use Rattle.std.specs.IoError.{error_kind};
-ghost use Rattle.rj_csv_io.specs.Devices.{after_failure};
+ghost use Rattle.rj_csv_io.specs.Devices.{CountsFailure};
 ghost use Rattle.rj_merge.specs.declared.refused.MergeRefused.{MergeRefused};
 ghost use Rattle.rj_merge.specs.Inputs.{copies_of, is_input};
 ghost use Rattle.rj_merge.specs.MergedTexts.{GotMerge, HaveNoFault, HeedsHeaders, IsFaultOfTexts, IsPartlyMerged, IsRefusedBy, IsUntouched};
@@ -12,9 +12,8 @@ ghost use Rattle.rj_merge.specs.Sources.{TellsAmong, is_outside};
 use crate::copies::{Copies, MergeInput};
 use crate::options::MergeOptions;
 use crate::refused::{MergeRefused, MergeTextsRefused};
-use crate::retrying::RetryingReader;
 use crate::texts::merge_texts;
-use rj_csv_io::Output;
+use rj_csv_io::{Output, RetryingReader};
 use std::alloc::Global;
 use std::io::{self, ErrorKind, Read};
 
@@ -118,8 +117,7 @@ pub fn merge_named<P: Opener, O: Output>(
     ensures input { (e : MergeRefused) → result ≡ Err (MergeTextsRefused.Merge e) → TellsAmong (is_input (length names.now)) e }
     ensures unopened { (i : ℕ) → OpensNothing (P.opens opener.now) (map (λ n. n.now) names.now) i
         → (output.new ≡ output.old) × ((e : MergeRefused) × (result ≡ Err (MergeTextsRefused.Merge e)) × IsOpenFault (P.shut opener.now) (map (λ n. n.now) names.now) i e) }
-    ensures device { result ≡ Err MergeTextsRefused.WriteDevice → O.count output.new ≡ after_failure (O.count output.old) }
-    ensures kept { result ≢ Err MergeTextsRefused.WriteDevice → O.count output.new ≡ O.count output.old }
+    ensures count { CountsFailure result MergeTextsRefused.WriteDevice (O.count output.new) (O.count output.old) }
 {
     let inputs = match open_named(alloc, opener, names, copies) {
         Ok(inputs) => inputs,

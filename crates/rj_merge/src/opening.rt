@@ -14,20 +14,11 @@ use crate::header::{SharedHeader, are_same, columns_of};
 use crate::input::{TextSource, next_record};
 use crate::options::MergeOptions;
 use crate::refused::MergeRefused;
-use csv::{ByteRecord, Reader, ReaderBuilder};
+use csv::{ByteRecord, Reader};
+use rj_csv_io::open_reader;
+use rj_csv_io::strict::Delimiter;
 use std::alloc::Global;
 use std::io::Read;
-
-// A reader of all records of a text.
-fn open_reader<R: Read>(alloc: Global, source: R) -> Reader<R>
-    ensures { (text : List ℕ) → R.remaining source ≡ Some text
-        → IsBetween R.remaining result × (records_remaining R.remaining result ≡ records_in comma text) }
-{
-    ReaderBuilder::new()
-        .has_headers(false)
-        .flexible(true)
-        .from_reader(alloc, source)
-}
 
 // A text whose header was read.
 #[derive(Drop)]
@@ -44,7 +35,7 @@ fn begin<R: Read + Drop>(alloc: Global, input: u32, source: R) -> Result<Begun<R
         → (e ≡ MergeRefused.NoHeader input) × (records_in comma text ≡ [])) }
     ensures input { IfErr result (TellsOf input) }
 {
-    let mut reader = open_reader(alloc, source);
+    let mut reader = open_reader(alloc, source, Delimiter::comma());
     let mut header = ByteRecord::new(alloc);
     match next_record(input, &mut reader, &mut header) {
         Ok(true) => {}

@@ -1,10 +1,10 @@
 //! Texts of placed rows merged into one text.
 
-ghost use Rattle.std.specs.Prelude.{◌≡◌, ◌≢◌, ◌<◌, ◌^◌, ◌++◌, [], true, Bool, List, ℕ, Err, All, IfOk, OnOk, map, vec_len};
+ghost use Rattle.std.specs.Prelude.{◌≡◌, ◌<◌, ◌^◌, ◌++◌, [], true, Bool, List, ℕ, Err, All, IfOk, OnOk, map, vec_len};
 ghost use Rattle.std.specs.Box.{box_value};
 ghost use Rattle.std.specs.Io.KnownBytes.{Appends};
 ghost use Rattle.csv.specs.Records.{fields_of};
-ghost use Rattle.rj_csv_io.specs.Devices.{after_failure};
+ghost use Rattle.rj_csv_io.specs.Devices.{CountsFailure};
 ghost use Rattle.rj_csv_io.specs.Shown.{rows_text};
 ghost use Rattle.rj_csv_io.specs.Written.{HasWritten};
 ghost use Rattle.rj_merge.specs.declared.place.Placed.{Placed};
@@ -71,8 +71,7 @@ fn put_rows<'n, R: Read + Drop, O: Output>(
         → GotFirst delimiter text (copied_rows (lists_of_inputs boxed_copies (boxed_reading R.remaining) sources.entry.items)) (O.told output.old) (O.told output.new) }
     ensures input { (e : MergeRefused) → result ≡ Err (MergeTextsRefused.Merge e) → (numbers : ℕ → Bool)
         → All (λ b. numbers (boxed_number b) ≡ true) sources.entry.items → TellsAmong numbers e }
-    ensures device { result ≡ Err MergeTextsRefused.WriteDevice → O.count output.new ≡ after_failure (O.count output.old) }
-    ensures kept { result ≢ Err MergeTextsRefused.WriteDevice → O.count output.new ≡ O.count output.old }
+    ensures count { CountsFailure result MergeTextsRefused.WriteDevice (O.count output.new) (O.count output.old) }
 {
     let mut block = block;
     let mut merge = match Merge::open(alloc, sources) {
@@ -151,8 +150,7 @@ pub fn merge_texts<R: Read + Drop, O: Output>(
     ensures partly { (e : MergeRefused) → result ≡ Err (MergeTextsRefused.Merge e)
         → ForTexts R.remaining inputs.items (λ texts. IsPartlyMerged how.now (copies_of inputs.items) texts (O.told output.old) (O.told output.new)) }
     ensures input { (e : MergeRefused) → result ≡ Err (MergeTextsRefused.Merge e) → TellsAmong (is_input (vec_len inputs)) e }
-    ensures device { result ≡ Err MergeTextsRefused.WriteDevice → O.count output.new ≡ after_failure (O.count output.old) }
-    ensures kept { result ≢ Err MergeTextsRefused.WriteDevice → O.count output.new ≡ O.count output.old }
+    ensures count { CountsFailure result MergeTextsRefused.WriteDevice (O.count output.new) (O.count output.old) }
 {
     let Opened { header, sources } = match open_all(alloc, inputs, how) {
         Ok(opened) => opened,

@@ -1,11 +1,11 @@
 //! The texts of the rows that are shown of a joined table, made segment by segment of its left table.
 
-ghost use Rattle.std.specs.Prelude.{◌≡◌, ◌≢◌, ◌<◌, ℕ, Err, IsTrue, List, OnOk, All, IfOk, IfSome, Ok, Some, length, map, slice_index_or, string_bytes};
+ghost use Rattle.std.specs.Prelude.{◌≡◌, ◌<◌, ℕ, Err, IsTrue, List, OnOk, All, IfOk, IfSome, Ok, Some, length, map, slice_index_or, string_bytes};
 ghost use Rattle.std.specs.Fork.{AcceptsEach, ChangesEach};
 ghost use Rattle.std.specs.Io.KnownBytes.{Appends};
 ghost use Rattle.std.specs.List.{concat};
 ghost use Rattle.std.specs.Option.{ForSome};
-ghost use Rattle.rj_csv_io.specs.Devices.{after_failure};
+ghost use Rattle.rj_csv_io.specs.Devices.{CountsFailure};
 ghost use Rattle.rj_csv_io.specs.Shown.{table_text};
 ghost use Rattle.rj_csv_io.specs.Tables.{is_null_text};
 ghost use Rattle.rj_engine.specs.Shown.{IsRunWithin};
@@ -322,8 +322,7 @@ fn write_segments<R: Threads + Sync, O: Output>(
     ensures ok { OnOk result (Appends (O.told writer.old) (O.told writer.new)
         (table_text written.now.format.delimiter written.now.format.null.now (map (λ n. n.now) header.now) (shown_cells written.now left))) }
     ensures memory { result ≡ Err WriteRefused.Memory → writer.new ≡ writer.old }
-    ensures device { result ≡ Err WriteRefused.WriteDevice → O.count writer.new ≡ after_failure (O.count writer.old) }
-    ensures kept { result ≢ Err WriteRefused.WriteDevice → O.count writer.new ≡ O.count writer.old }
+    ensures count { CountsFailure result WriteRefused.WriteDevice (O.count writer.new) (O.count writer.old) }
 {
     let Ok(texts) = texts_of_joined(rt, alloc, left, written) else {
         return Err(WriteRefused::Memory);
@@ -352,8 +351,7 @@ fn write_whole<R: Threads + Sync, O: Output>(
     ensures ok { OnOk result (Appends (O.told writer.old) (O.told writer.new)
         (table_text written.now.format.delimiter written.now.format.null.now (map (λ n. n.now) header.now) (shown_cells written.now left.now))) }
     ensures memory { result ≡ Err WriteRefused.Memory → writer.new ≡ writer.old }
-    ensures device { result ≡ Err WriteRefused.WriteDevice → O.count writer.new ≡ after_failure (O.count writer.old) }
-    ensures kept { result ≢ Err WriteRefused.WriteDevice → O.count writer.new ≡ O.count writer.old }
+    ensures count { CountsFailure result WriteRefused.WriteDevice (O.count writer.new) (O.count writer.old) }
 {
     let rows = RunView::whole(left, written.right, written.joined, written.shown);
     let (format, workers) = (&written.format, written.workers);
@@ -388,8 +386,7 @@ pub(crate) fn write_shown<R: Threads + Sync, O: Output>(
     ensures ok { OnOk result (Appends (O.told writer.old) (O.told writer.new)
         (table_text written.now.format.delimiter written.now.format.null.now (map string_bytes written.now.names.now) (shown_cells written.now left))) }
     ensures memory { result ≡ Err WriteRefused.Memory → writer.new ≡ writer.old }
-    ensures device { result ≡ Err WriteRefused.WriteDevice → O.count writer.new ≡ after_failure (O.count writer.old) }
-    ensures kept { result ≢ Err WriteRefused.WriteDevice → O.count writer.new ≡ O.count writer.old }
+    ensures count { CountsFailure result WriteRefused.WriteDevice (O.count writer.new) (O.count writer.old) }
 {
     let Ok(header) = texts_of(alloc, written.names) else {
         return Err(WriteRefused::Memory);

@@ -1,8 +1,8 @@
 //! The rows of a table, put to the outputs of their parts.
 
-ghost use Rattle.std.specs.Prelude.{◌≡◌, ◌≢◌, ◌<◌, ◌+◌, ◌^◌, length, map, All, IsTrue, IfErr, OnOk};
+ghost use Rattle.std.specs.Prelude.{◌≡◌, ◌<◌, ◌+◌, ◌^◌, length, map, All, IsTrue, IfErr, OnOk};
 ghost use Rattle.std.specs.Io.KnownBytes.{Appends};
-ghost use Rattle.rj_csv_io.specs.Devices.{after_failure};
+ghost use Rattle.rj_csv_io.specs.Devices.{CountsFailure};
 ghost use Rattle.rj_csv_io.specs.Shown.{rows_text, shown};
 ghost use Rattle.rj_csv_io.specs.Tables.{is_null_text};
 ghost use Rattle.rj_csv_io.specs.Grammar.{comma};
@@ -33,8 +33,7 @@ fn put_rows<O: Output>(
     ensures ok { OnOk result (Appends (O.told output.old) (O.told output.new)
         (rows_text comma (map (map (shown null.now)) (rows_at table.now.rows first rows.now)))) }
     ensures memory { result ≡ Err WriteRefused.Memory → output.new ≡ output.old }
-    ensures device { result ≡ Err WriteRefused.WriteDevice → O.count output.new ≡ after_failure (O.count output.old) }
-    ensures kept { result ≢ Err WriteRefused.WriteDevice → O.count output.new ≡ O.count output.old }
+    ensures count { CountsFailure result WriteRefused.WriteDevice (O.count output.new) (O.count output.old) }
 {
     let placed = PlacedRows::new(table, rows, first);
     let format = OutputFormat {

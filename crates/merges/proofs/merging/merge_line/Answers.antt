@@ -37,15 +37,13 @@ returns-in-Err-clause-refusal g c =
       is = named;
     }
 
-pub returns-in-Err-clause-device : goal.returns-in-Err-clause-device
-returns-in-Err-clause-device g c written =
-    let named = rw c.as_slice-files.ensures.value at c.of.ensures in
-    let failed = output_failed (names c.args.line.now) c.in-Err.refused c.of.result named (cc) in
-    c.in-Err.ensures.device (ap Err failed)
-
-pub returns-in-Err-clause-kept : goal.returns-in-Err-clause-kept
-returns-in-Err-clause-kept g c other =
-    let named = rw c.as_slice-files.ensures.value at c.of.ensures in
-    c.in-Err.ensures.kept (λ same.
-    let is : c.in-Err.refused ≡ refused.WriteDevice = cc in
-    other (ap Err (failed_output (names c.args.line.now) c.in-Err.refused c.of.result named is)))
+pub returns-in-Err-clause-count : goal.returns-in-Err-clause-count
+returns-in-Err-clause-count g c =
+    let named = rw c.as_slice-files.ensures.value at c.of.ensures in (
+      λ written.
+          let failed = output_failed (names c.args.line.now) c.in-Err.refused c.of.result named (cc) in
+          c.in-Err.ensures.count.0 (ap Err failed),
+      λ other. c.in-Err.ensures.count.1 (λ same.
+          let is : c.in-Err.refused ≡ refused.WriteDevice = cc in
+          other (ap Err (failed_output (names c.args.line.now) c.in-Err.refused c.of.result named is)))
+    )

@@ -1,4 +1,4 @@
-use Rattle.std.proofs.Common.{◌≡◌, ◌≤◌, ◌<◌, ◌+◌, ◌-◌, ◌∙◌, ◌++◌, ◌∷◌, [], ap, append_assoc, arith, map, sym}
+use Rattle.std.proofs.Common.{◌≡◌, ◌≤◌, ◌+◌, ◌-◌, ◌∙◌, ◌++◌, ◌∷◌, [], ap, append_assoc, arith, map, sym}
 use Rattle.std.proofs.lemmas.List.{append-nil, map-append}
 use Rattle.rj_columns.specs.Contents.{content_of}
 use Rattle.rj_columns.specs.Tables.{cell_in, part_of}

@@ -1,4 +1,4 @@
-use Rattle.std.proofs.Common.{◌≡◌, ◌∙◌, ◌≤◌, ◌+◌, ◌++◌, ap, length, sym, arith}
+use Rattle.std.proofs.Common.{◌≡◌, ◌∙◌, ◌+◌, ◌++◌, ap, length, sym, arith}
 use Rattle.rj_csv_io.specs.Shown.{range_text}
 use Rattle.rj_csv_io.proofs.RangeFacts.{range-none, range-join, range-whole}
 use Rattle.rj_csv_io.proofs.RowPartFacts.{concat-more}

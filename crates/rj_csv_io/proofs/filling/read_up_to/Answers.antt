@@ -14,7 +14,7 @@ loop-input-init g c = record {
 pub loop-input-preserved : goal.loop-input-preserved
 loop-input-preserved g c = record {
   bytes = λ start h. c.in_ok-read_piece.ensures.bytes start (c.loop-input.invariant.bytes start h);
-  count = c.in_ok-read_piece.ensures.kept (λ q. cc q) ∙ c.loop-input.invariant.count;
+  count = c.in_ok-read_piece.ensures.count.1 (λ q. cc q) ∙ c.loop-input.invariant.count;
   front = front-on _ _ _ c.loop-input.invariant.front c.in_ok-read_piece.ensures.front;
   bound = λ less. omega (arith, c.in_ok-read_piece.ensures.bound);
 }

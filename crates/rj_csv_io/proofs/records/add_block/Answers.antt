@@ -1,4 +1,4 @@
-use Rattle.std.proofs.Common.{◌≡◌, ◌≤◌, ◌<◌, ◌∙◌, ◌++◌, ◌∷◌, [], ℕ, ap, append_assoc, arith, length, sym}
+use Rattle.std.proofs.Common.{◌≡◌, ◌≤◌, ◌<◌, ◌∙◌, ◌++◌, ◌∷◌, [], ap, append_assoc, arith, length, sym}
 use Rattle.std.specs.Prelude.{slice_index_or}
 use Rattle.csv.specs.Writing.{writer_under}
 use Rattle.rj_csv_io.specs.Ends.{record_of, records_between}

@@ -1,6 +1,6 @@
-use Rattle.std.proofs.Common.{◌≤◌, ◌+◌, ◌∙◌, ◌++◌, ap, arith}
+use Rattle.std.proofs.Common.{◌+◌, ◌∙◌, ◌++◌, ap, arith}
 use Rattle.rj_csv_io.specs.Ends.{records_between}
-use Rattle.rj_csv_io.proofs.EndFacts.{records-join, records-none, records-whole}
+use Rattle.rj_csv_io.proofs.EndFacts.{records-join}
 use Rattle.rj_csv_io.proofs.records.row_texts.Goals as goal
 
 pub loop-row-preserved : goal.loop-row-preserved

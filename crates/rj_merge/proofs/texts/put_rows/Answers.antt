@@ -60,11 +60,8 @@ returns-in-Ok-None-clause-fault g c = λ e refused all. absurd (not_memory c.put
 pub returns-in-Ok-None-clause-input : goal.returns-in-Ok-None-clause-input
 returns-in-Ok-None-clause-input g c = λ e told numbers all. only_memory c.put_block.result c.put_block.ensures.fault e told numbers
 
-pub returns-in-Ok-None-clause-device : goal.returns-in-Ok-None-clause-device
-returns-in-Ok-None-clause-device g c = λ e. c.put_block.ensures.device e ∙ ap after_failure c.rows.invariant.count
-
-pub returns-in-Ok-None-clause-kept : goal.returns-in-Ok-None-clause-kept
-returns-in-Ok-None-clause-kept g c = λ e. c.put_block.ensures.kept e ∙ c.rows.invariant.count
+pub returns-in-Ok-None-clause-count : goal.returns-in-Ok-None-clause-count
+returns-in-Ok-None-clause-count g c = (λ e. c.put_block.ensures.count.0 e ∙ ap after_failure c.rows.invariant.count, λ e. c.put_block.ensures.count.1 e ∙ c.rows.invariant.count)
 
 pub returns-in-Err-next-clause-fault : goal.returns-in-Err-next-clause-fault
 returns-in-Err-next-clause-fault g c = λ e refused all.
@@ -87,11 +84,8 @@ returns-in-Err-add_row-clause-input g c = λ e told numbers all. only_memory c.a
 pub returns-in-Err-add_row-clause-fault : goal.returns-in-Err-add_row-clause-fault
 returns-in-Err-add_row-clause-fault g c = λ e refused all. absurd (not_memory c.add_row.result c.add_row.ensures.fault e (c.in-Err-add_row.is ∙ refused.is) refused.inside)
 
-pub returns-in-Err-add_row-clause-device : goal.returns-in-Err-add_row-clause-device
-returns-in-Err-add_row-clause-device g c = λ is. c.in-Err-add_row.ensures.device is ∙ ap after_failure c.rows.invariant.count
-
-pub returns-in-Err-add_row-clause-kept : goal.returns-in-Err-add_row-clause-kept
-returns-in-Err-add_row-clause-kept g c = λ is. c.in-Err-add_row.ensures.kept is ∙ c.rows.invariant.count
+pub returns-in-Err-add_row-clause-count : goal.returns-in-Err-add_row-clause-count
+returns-in-Err-add_row-clause-count g c = (λ is. c.in-Err-add_row.ensures.count.0 is ∙ ap after_failure c.rows.invariant.count, λ is. c.in-Err-add_row.ensures.count.1 is ∙ c.rows.invariant.count)
 
 pub returns-in-Err-clause-partly : goal.returns-in-Err-clause-partly
 returns-in-Err-clause-partly g c = λ e told text w all.
@@ -142,5 +136,5 @@ rows-preserved g c =
           c.in-Ok-Some.placed (heap_items c.next.new.self.heads) c.add_row.new.block (g.O.Output.told c.add_row.new.output) c.in-Ok-Some.ensures.tells
           (λ t. rw c.in-Ok-Some.field-0-is at (c.in-Ok-Some.ensures.step t)) (λ text t. c.in-Ok-add_row.ensures.told start text t));
       among = rw c.reuse.ensures (λ numbers all. c.in-Ok-Some.ensures.among numbers (c.rows.invariant.among numbers all));
-      count = c.in-Ok-add_row.ensures.kept (λ q. cc q) ∙ c.rows.invariant.count;
+      count = c.in-Ok-add_row.ensures.count.1 (λ q. cc q) ∙ c.rows.invariant.count;
     }

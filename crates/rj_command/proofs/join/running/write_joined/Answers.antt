@@ -22,9 +22,9 @@ pub returns-in_err-prepared-clause-failed : goal.returns-in_err-prepared-clause-
 returns-in_err-prepared-clause-failed g c =
     never_failed c.args.request.now c.args.operands c.in_err-prepared.field-0.0 c.from_residual.result (search rules) c.in_err-prepared.ensures.fault
 
-pub returns-in_err-prepared-clause-device : goal.returns-in_err-prepared-clause-device
-returns-in_err-prepared-clause-device g c =
-    never_failed c.args.request.now c.args.operands c.in_err-prepared.field-0.0 c.from_residual.result (search rules) c.in_err-prepared.ensures.fault
+pub returns-in_err-prepared-clause-count : goal.returns-in_err-prepared-clause-count
+returns-in_err-prepared-clause-count g c =
+    (never_failed c.args.request.now c.args.operands c.in_err-prepared.field-0.0 c.from_residual.result (search rules) c.in_err-prepared.ensures.fault, λ other. refl)
 
 pub returns-in_err-write_chosen-clause-fault : goal.returns-in_err-write_chosen-clause-fault
 returns-in_err-write_chosen-clause-fault g c =
@@ -38,9 +38,9 @@ returns-in_err-write_chosen-clause-failed g c = λ failed.
     let p = c.in_ok-prepared.prepared in
     (p.stats, ready_of _ _ p c.in_ok-prepared.ensures.prepared)
 
-pub returns-in_err-write_chosen-clause-kept : goal.returns-in_err-write_chosen-clause-kept
-returns-in_err-write_chosen-clause-kept g c = λ other. c.in_err-write_chosen.ensures.kept (λ same.
+pub returns-in_err-write_chosen-clause-count : goal.returns-in_err-write_chosen-clause-count
+returns-in_err-write_chosen-clause-count g c = (search rules, λ other. c.in_err-write_chosen.ensures.count.1 (λ same.
     let told = err_from_is_err_and c.from_residual-in_err-write_chosen.result c.from_residual-in_err-write_chosen.ensures.1 in
     let device : c.in_err-write_chosen.field-0.0 ≡ refused.WriteDevice
     = subst (λ (w : Result (Unit {0}) WriteRefused). IfErr w (λ x. x ≡ refused.WriteDevice)) (sym same) refl in
-    other (told.1 ∙ ap Err (told.2 ∙ ap write_fault device)))
+    other (told.1 ∙ ap Err (told.2 ∙ ap write_fault device))))

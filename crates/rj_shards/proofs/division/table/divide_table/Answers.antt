@@ -16,14 +16,14 @@ returns-in-Err-Memory-clause-counts g c =
     let now = c.loop-part.outputs in let p = c.loop-part.part in
     let same = ap (λ d. get_or now p d) (sym c.index-outputs-part.is) in
     count-kept g.O.Output.count c.args.outputs.now now p (get_or now p c.index-outputs-part.result) c.put_rows.new.output c.loop-part.invariant.counts same
-    (c.in-Err-Memory.ensures.kept (λ q. cc (q, c.in-Err-Memory.field-0-is)))
+    (c.in-Err-Memory.ensures.count.1 (λ q. cc (q, c.in-Err-Memory.field-0-is)))
 
 pub returns-in-Err-WriteDevice-clause-counts : goal.returns-in-Err-WriteDevice-clause-counts
 returns-in-Err-WriteDevice-clause-counts g c =
     let now = c.loop-part.outputs in let p = c.loop-part.part in
     let same = ap (λ d. get_or now p d) (sym c.index-outputs-part.is) in
     count-more g.O.Output.count c.args.outputs.now now p (get_or now p c.index-outputs-part.result) c.put_rows.new.output c.loop-part.invariant.counts
-    (omega (arith, c.loop-part-test.true, c.loop-part.auto.outputs, c.loop-part.invariant.end)) same (c.in-Err-WriteDevice.ensures.device (ap Err c.in-Err-WriteDevice.field-0-is))
+    (omega (arith, c.loop-part-test.true, c.loop-part.auto.outputs, c.loop-part.invariant.end)) same (c.in-Err-WriteDevice.ensures.count.0 (ap Err c.in-Err-WriteDevice.field-0-is))
 
 pub loop-part-preserved : goal.loop-part-preserved
 loop-part-preserved g c =
@@ -37,7 +37,7 @@ loop-part-preserved g c =
     let put = rw (is, numbers-rows part p c.args.first rows) at c.in-Ok-put_rows.ensures.ok in
     record {
       end = c.loop-part.invariant.end;
-      counts = count-kept g.O.Output.count old now p x y c.loop-part.invariant.counts same (c.in-Ok-put_rows.ensures.kept (λ q. cc q));
+      counts = count-kept g.O.Output.count old now p x y c.loop-part.invariant.counts same (c.in-Ok-put_rows.ensures.count.1 (λ q. cc q));
       have = have-more g.O.Output.told (λ (q : ℕ). part_text null part q c.args.first rows) old now p x y low same c.loop-part.invariant.have c.loop-part.invariant.wait put;
       wait = wait-more g.O.Output.told (λ (q : ℕ). part_text null part q c.args.first rows) old now p y c.loop-part.invariant.wait;
     }
