@@ -1,10 +1,9 @@
 -- What the bytes of a side denote, by how they were read.
-use Rattle.std.proofs.Common.{◌≡◌, ◌≢◌, ◌∙◌, Bool, true, List, ℕ, refl, sym, ap, subst}
-use Rattle.std.specs.Prelude.{Result, Ok, Err, IfOk, IfErr, None}
-use Rattle.std.proofs.lemmas.List.{append-nil}
+use Rattle.std.proofs.Common.{◌≡◌, ◌≢◌, ◌∙◌, Bool, true, List, ℕ, sym, ap, subst}
+use Rattle.std.specs.Prelude.{Result, Ok, Err, IfOk, IfErr}
 use Rattle.rj_columns.specs.Tables.{TableValue}
 use Rattle.rj_csv_io.specs.StrictFaults.{AreAbove, HasFault, row_at}
-use Rattle.rj_csv_io.specs.Grammar.{Derives, File, Line, lines_text, records_of}
+use Rattle.rj_csv_io.specs.Grammar.{Derives, File, Line, records_of}
 use Rattle.rj_csv_io.specs.StrictReading.{body_of}
 use Rattle.rj_csv_io.specs.declared.strict.fault.StrictFault.{StrictFault}
 use Rattle.rj_csv_io.specs.declared.strict.header.HeaderPlace.TheVariants.{First}
@@ -43,8 +42,3 @@ module _ (full : Bool) (q : Request) (s : Side) (text : List ℕ) where
       → IsStrictFault full q s text f
   text_fault g lines r f has above told is not =
       subst (IsStrictFault full q s text) (sym (same_below g (records_in_lines lines) r f told is not)) (of_text g lines has above)
-
--- whole lines are derived
-pub lines_derived : (d : ℕ) (text above : List ℕ) (row : ℕ) (lines : List Line) → AreAbove d First text row lines → above ≡ lines_text d lines
-    → Derives d First true above (record { lines = lines; rest = None })
-lines_derived d text above row lines are is = record { spelled = is ∙ sym (append-nil (lines_text d lines)); lines = are.are_lines; rest = refl }

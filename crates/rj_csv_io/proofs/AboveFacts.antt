@@ -1,10 +1,10 @@
 -- Where a row begins in a text that has a fault.
-use Rattle.std.specs.Prelude.{ℕ, ◌+◌, ◌==◌, ◌≡◌, ◌<◌, ◌≤◌, if◌then◌else◌, Bool, true, false, List, [], ◌∷◌, ◌++◌, length, take, drop, Result, Ok, Err}
+use Rattle.std.specs.Prelude.{ℕ, ◌+◌, ◌==◌, ◌≡◌, ◌<◌, ◌≤◌, if◌then◌else◌, Bool, true, false, List, [], ◌∷◌, ◌++◌, length, take, drop, None, Result, Ok, Err}
 use Rattle.std.proofs.Common.{refl, sym, ap, subst, arith, ◌∙◌, inl, inr, get_or, length-append, length-drop}
 use Rattle.std.specs.Prelude.{◌⊎◌}
-use Rattle.std.proofs.lemmas.List.{at_drop_more, at_drop_all}
+use Rattle.std.proofs.lemmas.List.{append-nil, at_drop_more, at_drop_all}
 use Rattle.std.proofs.Math.Seq.{take-append_seam}
-use Rattle.rj_csv_io.specs.Grammar.{Field, escaped, non-escaped, Line, fields_text, lines_text}
+use Rattle.rj_csv_io.specs.Grammar.{Derives, Field, escaped, non-escaped, Line, fields_text, lines_text}
 use Rattle.rj_csv_io.specs.StrictFaults.{AreAbove, HasFault, row_at}
 use Rattle.rj_csv_io.specs.StrictSteps.{at_delimiter, at_cr, at_dquote, at_lf, at_textdata, end_empty, end_of, forbids_empty, initial_standing, step_of, verdict}
 use Rattle.rj_csv_io.specs.declared.strict.header.HeaderPlace.{HeaderPlace}
@@ -238,3 +238,8 @@ module _ (d : ℕ) (h : HeaderPlace) (row : ℕ) (text : List ℕ) (at : ℕ) (s
         },
         ap (λ (n : ℕ). take n text) is_at ∙ (ap (λ (x : List ℕ). take (length (lines_text d t.lines)) x) whole ∙ take-append_seam (lines_text d t.lines) left),
       )
+
+-- whole lines are derived
+pub lines_derived : (d : ℕ) (text above : List ℕ) (row : ℕ) (lines : List Line) → AreAbove d First text row lines → above ≡ lines_text d lines
+    → Derives d First true above (record { lines = lines; rest = None })
+lines_derived d text above row lines are is = record { spelled = is ∙ sym (append-nil (lines_text d lines)); lines = are.are_lines; rest = refl }

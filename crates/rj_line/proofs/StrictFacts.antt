@@ -1,28 +1,20 @@
 -- What a text suggests, and why it doesn't, by its one derivation.
-use Rattle.std.proofs.Common.{◌≡◌, ◌≢◌, ◌∙◌, true, List, ℕ, Some, None, Result, Ok, Err, refl, ap, sym}
+use Rattle.std.proofs.Common.{◌≡◌, ◌≢◌, ◌∙◌, List, ℕ, Some, None, Result, Ok, Err, ap, sym}
 use Rattle.std.specs.Prelude.{option_map}
 use Rattle.std.specs.Result.{IfErr, IfOk, result_err}
-use Rattle.std.proofs.lemmas.List.{append-nil}
 use Rattle.csv.specs.Reading.{records, strip_bom}
 use Rattle.rj_line.specs.Faults.{read_fault}
 use Rattle.rj_line.specs.declared.fault.Fault.{Fault}
 use Rattle.rj_line.specs.declared.fault.Fault.TheVariants as fault
 use Rattle.rj_line.specs.declared.fault.Side.TheVariants as side
-use Rattle.rj_csv_io.specs.StrictFaults.{AreAbove}
-use Rattle.rj_csv_io.specs.Grammar.{Derives, File, Line, file_text, lines_text, records_of}
+use Rattle.rj_csv_io.specs.Grammar.{File, file_text, records_of}
 use Rattle.rj_csv_io.specs.StrictReading.{config_of, quoted}
 use Rattle.rj_csv_io.specs.declared.strict.fault.StrictFault.{StrictFault}
-use Rattle.rj_csv_io.specs.declared.strict.header.HeaderPlace.TheVariants.{First}
 use Rattle.rj_line.specs.StrictListings.{fault_in, refused_below}
 use Rattle.rj_line.specs.Misfits.{IsSuggestionOf}
 use Rattle.rj_line.specs.Suggested.{IsFaultOf}
 use Rattle.rj_line.specs.declared.suggest.strict.StrictlyRefused.TheVariants.{Records}
 use Rattle.rj_line.specs.declared.suggest.suggestion.Suggestion.{Suggestion}
-
--- whole lines are derived
-pub lines-derived : (d : ℕ) (text above : List ℕ) (row : ℕ) (lines : List Line) → AreAbove d First text row lines → above ≡ lines_text d lines
-    → Derives d First true above (record { lines = lines; rest = None })
-lines-derived d text above row lines are is = record { spelled = is ∙ sym (append-nil (lines_text d lines)); lines = are.are_lines; rest = refl }
 
 -- the records that are read from a text with its empty lines quoted
 pub records-quoted : (d : ℕ) (file : File) (shown text : List ℕ) → shown ≡ text → strip_bom text ≡ file_text d (quoted file)

@@ -7,7 +7,8 @@ use Rattle.rj_csv_io.specs.StrictReading.{config_of}
 use Rattle.rj_csv_io.specs.declared.strict.header.HeaderPlace.TheVariants.{Above, First}
 use Rattle.rj_csv_io.proofs.StrictLawFacts.{derived_with_header, reads_all_records}
 use Rattle.rj_command.specs.Sides.{delimiter_of}
-use Rattle.rj_command.proofs.SideFacts.{lines_derived, records_fault, records_table, same_reading, text_fault}
+use Rattle.rj_csv_io.proofs.AboveFacts.{lines_derived}
+use Rattle.rj_command.proofs.SideFacts.{records_fault, records_table, same_reading, text_fault}
 use Rattle.rj_command.proofs.join.strict.read_strictly.Goals as goal
 
 pub returns-then-has_full_lines-clause-table : goal.returns-then-has_full_lines-clause-table

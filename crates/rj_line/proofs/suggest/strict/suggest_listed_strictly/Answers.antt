@@ -6,7 +6,8 @@ use Rattle.rj_csv_io.specs.Grammar.{File, records_of}
 use Rattle.rj_line.specs.StrictListings.{IsStrictRefusal, of_records, of_text, refused_below}
 use Rattle.rj_line.specs.declared.suggest.strict.StrictlyRefused.{StrictlyRefused}
 use Rattle.rj_line.specs.declared.suggest.strict.StrictlyRefused.TheVariants.{Records}
-use Rattle.rj_line.proofs.StrictFacts.{lines-derived, refused-by-lines}
+use Rattle.rj_csv_io.proofs.AboveFacts.{lines_derived}
+use Rattle.rj_line.proofs.StrictFacts.{refused-by-lines}
 use Rattle.rj_line.proofs.suggest.strict.suggest_listed_strictly.Goals as goal
 
 pub suggest_derived-requires-in-Err : goal.suggest_derived-requires-in-Err
@@ -14,7 +15,7 @@ suggest_derived-requires-in-Err c =
     let above = c.above_fault-above.ensures in (
       true,
       record { lines = above.0; rest = None },
-      lines-derived c.args.format.now.delimiter (strip_bom c.args.bytes.now) (strip_bom c.above_fault-above.result.now) (row_at c.in-Err.fault) above.0 above.1 above.2,
+      lines_derived c.args.format.now.delimiter (strip_bom c.args.bytes.now) (strip_bom c.above_fault-above.result.now) (row_at c.in-Err.fault) above.0 above.1 above.2,
     )
 
 pub returns-in-Err-suggest_derived-clause-refused :
@@ -29,7 +30,7 @@ returns-in-Err-clause-refused c = λ apart.
     let nulls = null_texts c.args.format.now.nulls.now in
     let above = c.above_fault-above.ensures in
     let file : File = record { lines = above.0; rest = None } in
-    let derived = lines-derived c.args.format.now.delimiter text (strip_bom c.above_fault-above.result.now) (row_at c.in-Err.fault) above.0 above.1 above.2 in
+    let derived = lines_derived c.args.format.now.delimiter text (strip_bom c.above_fault-above.result.now) (row_at c.in-Err.fault) above.0 above.1 above.2 in
     let found = c.refused_below.ensures ∙ ap (refused_below c.in-Err.fault) c.err-found.ensures.value in
     let same = refused-by-lines c.in-Err.fault (records_of file) nulls c.suggest_derived-in-Err.result
     (c.suggest_derived-in-Err.ensures.suggestion true file derived) (c.suggest_derived-in-Err.ensures.fault true file derived) (λ e. apart (found ∙ e)) in
