@@ -26,9 +26,9 @@ pub(crate) fn kind_at(
     header: &Row,
     column: u64,
 ) -> Result<Option<ColumnType>, AllocError>
-    ensures { IfOk result (λ o. o ≡ slice_get (columns.types_under file.now.types.now (names_in header.now.record)) (column - 1)) }
+    ensures { IfOk result (λ o. o ≡ slice_get (columns.types_under file.now.types.now (names_in header.now.fields)) (column - 1)) }
 {
-    let kinds = file.kinds(alloc, &header.record)?;
+    let kinds = file.kinds(alloc, &header.fields)?;
     match kinds.get((column as usize).saturating_sub(1)) {
         Some(kind) => Ok(Some(*kind)),
         None => Ok(None),
@@ -74,7 +74,7 @@ fn header_and_row(
     row: u64,
 ) -> Result<Option<HeaderAndRow>, AllocError>
     ensures { IfOk result (λ o. MatchOption o (HasNoRow delimiter text.now 0 ⊎ HasNoRow delimiter text.now row)
-        (λ b. IsRow delimiter text.now 0 b.header.line (names_in b.header.record) × IsRow delimiter text.now row b.row.line (names_in b.row.record))) }
+        (λ b. IsRow delimiter text.now 0 b.header.line (names_in b.header.fields) × IsRow delimiter text.now row b.row.line (names_in b.row.fields))) }
 {
     let Some(header) = find_row(alloc, text, delimiter, 0)? else {
         return Ok(None);
@@ -97,8 +97,8 @@ pub(crate) fn find_both(
 ) -> Result<Option<HeaderAndRow>, AllocError>
     ensures { IfOk result (λ o. (text : List ℕ) × IsTextOf (file_read file.now) text
         × MatchOption o (HasNoRow file.now.delimiter text 0 ⊎ HasNoRow file.now.delimiter text row)
-        (λ b. IsRow file.now.delimiter text 0 b.header.line (names_in b.header.record)
-        × IsRow file.now.delimiter text row b.row.line (names_in b.row.record))) }
+        (λ b. IsRow file.now.delimiter text 0 b.header.line (names_in b.header.fields)
+        × IsRow file.now.delimiter text row b.row.line (names_in b.row.fields))) }
 {
     let quoted = file.quoted_text(alloc)?;
     let text = text_of(&quoted, file.bytes);
@@ -113,15 +113,15 @@ fn lines_of_cell(
     column: u64,
 ) -> Result<String, AllocError>
     ensures { IfOk result (λ s. string_bytes s
-        ≡ cell_of_row file.now.types.now column found.now.row.line (names_in found.now.header.record) (names_in found.now.row.record)) }
+        ≡ cell_of_row file.now.types.now column found.now.row.line (names_in found.now.header.fields) (names_in found.now.row.fields)) }
 {
     let Some(kind) = kind_at(alloc, file, &found.header, column)? else {
         return Ok(String::new(alloc));
     };
-    let Some(name) = field_at(alloc, &found.header.record, column)? else {
+    let Some(name) = field_at(alloc, &found.header.fields, column)? else {
         return Ok(String::new(alloc));
     };
-    match field_at(alloc, &found.row.record, column)? {
+    match field_at(alloc, &found.row.fields, column)? {
         Some(value) => cell_line(alloc, found.row.line, name, value, kind),
         None => Ok(String::new(alloc)),
     }
@@ -150,10 +150,10 @@ pub(crate) fn cell_lines(
 // The line that gives both lengths.
 fn ragged_line(alloc: Global, found: &HeaderAndRow) -> Result<String, AllocError>
     ensures { IfOk result (λ s. string_bytes s
-        ≡ lines.ragged_line found.now.row.line (length (names_in found.now.row.record)) (length (names_in found.now.header.record))) }
+        ≡ lines.ragged_line found.now.row.line (length (names_in found.now.row.fields)) (length (names_in found.now.header.fields))) }
 {
-    let (line, names) = (found.row.line, found.header.record.columns());
-    let fields = found.row.record.columns();
+    let (line, names) = (found.row.line, found.header.fields.columns());
+    let fields = found.row.fields.columns();
     format!(in alloc; "  line {line} of the file: {fields} fields under {names} names\n")
 }
 

@@ -101,7 +101,7 @@ fn first_bad(
     requires within { from.at ≤ length column.now.text.now }
     requires rows { from.row ≤ from.at }
     ensures bad { IfOk result (λ o. MatchOption o (HasNoBad column.now from.row)
-        (λ b. IsFirstBadRow column.now from.row b.number b.row.line (names_in b.row.record))) }
+        (λ b. IsFirstBadRow column.now from.row b.number b.row.line (names_in b.row.fields))) }
     ensures below { IfOk result (λ o. IfSome o (λ b. StandsAt column.now.delimiter column.now.text.now b.below.row b.below.at)) }
     ensures next { IfOk result (λ o. IfSome o (λ b. b.below.row ≡ b.number + 1)) }
     ensures within { IfOk result (λ o. IfSome o (λ b. b.below.at ≤ length column.now.text.now)) }
@@ -121,7 +121,7 @@ fn first_bad(
                 number: row,
                 row: Row {
                     line: line_from(column.text, at),
-                    record: fields,
+                    fields,
                 },
                 below: RowPlace {
                     row: row + 1,
@@ -137,10 +137,10 @@ fn first_bad(
 // The line for a bad cell.
 fn bad_line(alloc: Global, column: &TypedColumn<'_>, found: &BadRow) -> Result<String, AllocError>
     ensures { IfOk result (λ s. string_bytes s
-        ≡ further.bad_line found.now.number found.now.row.line (at_column column.now.number (names_in found.now.row.record))) }
+        ≡ further.bad_line found.now.number found.now.row.line (at_column column.now.number (names_in found.now.row.fields))) }
 {
     let (row, line) = (found.number, found.row.line);
-    match field_at(alloc, &found.row.record, column.number)? {
+    match field_at(alloc, &found.row.fields, column.number)? {
         Some(bytes) => {
             let value = Shown { bytes };
             format!(in alloc; "  row {row}, line {line} of the file: {value}\n")

@@ -219,10 +219,10 @@ fn push_field(text: &mut String, field: Option<String>) -> Result<(), AllocError
 
 // The names of these columns, counted from 0, and what is under each in a row.
 fn key_text_of(alloc: Global, found: &HeaderAndRow, columns: &[usize]) -> Result<String, AllocError>
-    ensures { IfOk result (λ s. string_bytes s ≡ lines.key_text (names_in found.now.header.record) (names_in found.now.row.record) columns.now) }
+    ensures { IfOk result (λ s. string_bytes s ≡ lines.key_text (names_in found.now.header.fields) (names_in found.now.row.fields) columns.now) }
 {
-    let names = found.header.record.names(alloc)?;
-    let fields = found.row.record.names(alloc)?;
+    let names = found.header.fields.names(alloc)?;
+    let fields = found.row.fields.names(alloc)?;
     let mut text = String::new(alloc);
     for column in columns {
         let name = field_in(names.as_slice(), *column);
@@ -265,7 +265,7 @@ fn key_text(
     side: Side,
 ) -> Result<String, AllocError>
     ensures { IfOk result (λ s. (columns : List ℕ) × AreKeyColumns side inputs.now columns
-        × (string_bytes s ≡ lines.key_text (names_in found.now.header.record) (names_in found.now.row.record) columns)) }
+        × (string_bytes s ≡ lines.key_text (names_in found.now.header.fields) (names_in found.now.row.fields) columns)) }
 {
     let columns = key_columns(alloc, inputs, side)?;
     key_text_of(alloc, found, columns.as_slice())
@@ -281,7 +281,7 @@ fn lines_of_paired(
     pairs: u64,
 ) -> Result<String, AllocError>
     ensures { IfOk result (λ s. IsKeyTold side row pairs inputs.now (string_bytes s) found.now.row.line
-        (names_in found.now.header.record) (names_in found.now.row.record)) }
+        (names_in found.now.header.fields) (names_in found.now.row.fields)) }
 {
     let key = key_text(alloc, inputs, found, side)?;
     paired_line(alloc, side, row, pairs, found.row.line, key.as_str())

@@ -16,7 +16,7 @@ pub struct Row {
     /// The line of the text, counted from 1, on which its first byte is.
     pub line: u64,
     /// Its fields, which are read as the names of a header are.
-    pub record: Header,
+    pub fields: Header,
 }
 
 /// The record of a row in a text of CSV, as the library `csv` reads it by this delimiter. The
@@ -32,15 +32,15 @@ pub fn find_row(
     delimiter: Delimiter,
     row: u64,
 ) -> Result<Option<Row>, AllocError>
-    ensures { IfOk result (λ o. MatchOption o (HasNoRow delimiter text.now row) (λ r. IsRow delimiter text.now row r.line (names_in r.record))) }
+    ensures { IfOk result (λ o. MatchOption o (HasNoRow delimiter text.now row) (λ r. IsRow delimiter text.now row r.line (names_in r.fields))) }
 {
     let Some(at) = place_of_row(text, delimiter, row) else {
         return Ok(None);
     };
     match Header::of(alloc, &text[at..], delimiter)? {
-        Some(record) => Ok(Some(Row {
+        Some(fields) => Ok(Some(Row {
             line: line_from(text, at),
-            record,
+            fields,
         })),
         None => Ok(None),
     }

@@ -404,7 +404,8 @@ pub(crate) fn divide_range<S: Storage, O: Output>(
     output: &mut O,
 ) -> (Result<(), Failure>, Vec<S::Part>)
     ensures division { OnOk result.0 (IsDivision (S.holds storage.now) (S.tells_parts storage.now folder.now) line.now bounds (map S.Part.told result.1.items) (printed_in O.told O.count output.old) (printed_in O.told O.count output.new)) }
-    ensures failure { IfErr result.0 (IsRangeFailure (S.holds storage.now) (S.tells_parts storage.now folder.now) line.now bounds (map S.Part.told result.1.items) (printed_in O.told O.count output.old) (printed_in O.told O.count output.new)) }
+    ensures failure { IfErr result.0 (IsRangeFailure (S.holds storage.now) (S.tells_parts storage.now folder.now) line.now bounds (map S.Part.told result.1.items)
+        (printed_in O.told O.count output.old) (printed_in O.told O.count output.new)) }
 {
     let (head, table, kinds) = match read_own(alloc, storage, line) {
         Ok(own) => own,
