@@ -19,7 +19,7 @@ loop-told-preserved c =
     let column = c.args.column.now in
     let row = c.loop-told.place.row in
     let found = c.in-Some.found in
-    let names = names_in found.row.record in
+    let names = names_in found.row.fields in
     let line = bad_line found.number found.row.line (at_column column.number names) in
     let lines = string_bytes c.loop-told.lines in
     let first = rw c.in-Some.is at c.in_ok-found.ensures.bad in
@@ -53,5 +53,5 @@ returns c =
     let found = c.in-Some-2._next in
     let first = rw c.in-Some-2.is at c.in_ok-_next.ensures.bad in
     let left : 0 ≡ 19 - c.loop-told._told = omega arith in
-    let more = subst (λ (n : ℕ). AreBadTold column row n more_line) left (AreBadTold.more row found.number found.row.line (names_in found.row.record) first) in
+    let more = subst (λ (n : ℕ). AreBadTold column row n more_line) left (AreBadTold.more row found.number found.row.line (names_in found.row.fields) first) in
     subst (λ (s : List ℕ). AreBadTold column c.args.from.row 19 s) (sym c.in_ok-push_str-2.ensures.bytes) (c.loop-told.invariant.told more_line more)

@@ -13,5 +13,5 @@ returns-in-Some-2 c =
     let header = c.in-Some.header in
     let found = rw (c.in-Some.is, c.table-file.ensures.delimiter) at c.in_ok-header.ensures in
     let typed = sym (rw (c.in-Some-2.is, c.table-file.ensures.types) at c.in_ok-kind.ensures) in
-    IfOk-weaker c.lines_below.result _ _ (λ s told. inr (header.line, names_in header.record, found, rw typed (c.column_of-column.result, c.column_of-column.ensures, told)))
+    IfOk-weaker c.lines_below.result _ _ (λ s told. inr (header.line, names_in header.fields, found, rw typed (c.column_of-column.result, c.column_of-column.ensures, told)))
     c.lines_below.ensures

@@ -6,7 +6,7 @@ use Rattle.rj_explain.proofs.joined.key_text.Goals as goal
 
 pub returns : goal.returns
 returns c =
-    let names = names_in c.args.found.now.header.record in
-    let fields = names_in c.args.found.now.row.record in
+    let names = names_in c.args.found.now.header.fields in
+    let fields = names_in c.args.found.now.row.fields in
     IfOk-weaker c.key_text_of.result _ _
     (λ s told. (c.in_ok-columns.columns.items, c.in_ok-columns.ensures, told ∙ ap (λ (cs : List ℕ). lines.key_text names fields cs) c.as_slice.ensures.value)) c.key_text_of.ensures

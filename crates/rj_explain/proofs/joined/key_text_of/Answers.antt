@@ -9,8 +9,8 @@ use Rattle.rj_explain.proofs.joined.key_text_of.Goals as goal
 
 pub loop-column-preserved : goal.loop-column-preserved
 loop-column-preserved c =
-    let names = names_in c.args.found.now.header.record in
-    let fields = names_in c.args.found.now.row.record in
+    let names = names_in c.args.found.now.header.fields in
+    let fields = names_in c.args.found.now.row.fields in
     let at = λ (column : ℕ). field_text (slice_get names column) (slice_get fields column) in
     let columns = c.args.columns.now in
     let i = c.loop-column.column-index in

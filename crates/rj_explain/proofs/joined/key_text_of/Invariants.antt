@@ -5,4 +5,4 @@ use Rattle.rj_explain.specs.Lines.{key_text}
 use Rattle.rj_explain.proofs.joined.key_text_of.Given as goal
 
 abbrev pub invariant-loop-column : goal.invariant-loop-column
-invariant-loop-column l = string_bytes l.text ≡ key_text (names_in l.found.header.record) (names_in l.found.row.record) (take l.column-index l.columns)
+invariant-loop-column l = string_bytes l.text ≡ key_text (names_in l.found.header.fields) (names_in l.found.row.fields) (take l.column-index l.columns)
