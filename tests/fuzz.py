@@ -1,8 +1,9 @@
 """Random and mutated bytes as files, clauses, scripts and command lines of the built programs, each run compared with
 what tests/oracle answers: the bytes on both streams, the status, no signal, and no more than 64 MB of memory.
 
-By hand: python3 tests/fuzz.py [--seconds N] [--seed S] [--jobs N] [--only KIND]"""
+By hand, with no bound on the cases: python3 tests/fuzz.py [--seconds N] [--seed S] [--jobs N] [--only KIND]"""
 import argparse
+import math
 import multiprocessing
 import os
 import pathlib
@@ -16,6 +17,8 @@ import many
 from oracle import clause, command, grammar
 
 SECONDS = 60
+# A job runs no more cases than these, so that a fast machine meets none that others don't.
+MOST_CASES = 15_000
 SEED = "radixjoin"
 MOST_MEMORY = 64 * 1024
 MOST_FAULTS = 10
@@ -100,31 +103,31 @@ def check(case, runs, count):
         count.faults.append((case.kind, [shown(case), *faults]))
 
 
-def work(seed, seconds, only):
-    """Runs cases until the time is over."""
+def work(seed, seconds, most, only):
+    """Runs cases until there were as many as that, or the time is over."""
     count = Count()
     until = time.monotonic() + seconds
     with harness.folder() as name:
         folder = pathlib.Path(name)
         cases = fuzz_cases.Cases(random.Random(seed), folder)
         with many.Runs(many.compiled(folder), folder) as runs:
-            while time.monotonic() < until and len(count.faults) < MOST_FAULTS:
+            while sum(count.runs.values()) < most and time.monotonic() < until and len(count.faults) < MOST_FAULTS:
                 check(cases.next(only), runs, count)
     return count
 
 
-def run_jobs(seed, seconds, jobs, only=None):
+def run_jobs(seed, seconds, jobs, most, only=None):
     """The same from several seeds at once."""
     total = Count()
     with multiprocessing.Pool(jobs) as pool:
-        for count in pool.starmap(work, [(f"{seed} {job}", seconds, only) for job in range(jobs)]):
+        for count in pool.starmap(work, [(f"{seed} {job}", seconds, most, only) for job in range(jobs)]):
             total.join(count)
     return total
 
 
-def run_all(tally, seconds=SECONDS, seed=SEED, jobs=2, only=None):
+def run_all(tally, seconds=SECONDS, seed=SEED, jobs=2, most=MOST_CASES, only=None):
     """All kinds for some time; each run counts as one test that passed, or tells its difference."""
-    count = run_jobs(seed, seconds, jobs, only)
+    count = run_jobs(seed, seconds, jobs, most, only)
     for kind, faults in count.faults:
         tally.check(f"fuzz: {kind}", faults)
     tally.check("fuzz: some runs of each kind", [] if only or set(count.runs) == set(fuzz_cases.KINDS) else [str(count)])
@@ -139,7 +142,7 @@ def main():
     words.add_argument("--only", choices=fuzz_cases.KINDS)
     found = words.parse_args()
     tally = harness.Tally()
-    run_all(tally, found.seconds, found.seed, found.jobs, found.only)
+    run_all(tally, found.seconds, found.seed, found.jobs, math.inf, found.only)
     print(f"{tally.passed} passed, {tally.failed} failed")
     return 1 if tally.failed else 0
 
