@@ -1,6 +1,6 @@
 -- The types that a request takes from cells.
-use Rattle.std.proofs.Common.{◌≡◌, ◌∙◌, ◌+◌, ◌++◌, ◌∷◌, [], ap, ap₂, append_assoc, arith, drop, length, refl, sym, subst, take, true, false, true≢false, Bool, List, ℕ, Option, Some, None, codes}
-use Rattle.std.specs.Prelude.{IsErr, IsTrue, MatchOption, OnOk, Result, Ok, Err, is_err, replicate, slice_get}
+use Rattle.std.proofs.Common.{◌≡◌, ◌∙◌, ◌+◌, ◌++◌, ◌∷◌, [], ap, ap₂, append_assoc, drop, length, refl, sym, subst, take, true, false, true≢false, Bool, List, ℕ, Option, Some, None}
+use Rattle.std.specs.Prelude.{IsErr, MatchOption, OnOk, Result, Ok, Err, is_err, replicate, slice_get}
 use Rattle.std.specs.Option.{option_to_list}
 use Rattle.std.specs.declared.alloc.Global.{Global}
 use Rattle.std.specs.declared.vec.Vec.{Vec}
@@ -20,15 +20,14 @@ use Rattle.rj_line.specs.declared.fault.Fault.{Fault}
 use Rattle.rj_line.specs.declared.fault.Side.{Side}
 use Rattle.rj_line.specs.declared.fault.Side.TheVariants as side
 use Rattle.rj_line.specs.declared.request.Request.{Request}
-use Rattle.rj_csv_io.specs.Grammar.{Derives, File, file_text, records_of}
-use Rattle.rj_csv_io.specs.StrictReading.{body_of, config_of, quoted}
-use Rattle.rj_csv_io.specs.declared.strict.fault.StrictFault.{StrictFault}
+use Rattle.rj_csv_io.specs.Grammar.{Derives, File, records_of}
+use Rattle.rj_csv_io.specs.StrictReading.{body_of, config_of}
 use Rattle.rj_csv_io.specs.declared.strict.header.HeaderPlace.TheVariants.{First}
 use Rattle.rj_line.specs.Suggested.{AreKindsOf, read_as_texts}
 use Rattle.rj_settings.specs.declared.types.entry.TypeEntry.{TypeEntry}
 use Rattle.rj_command.specs.Auto.{AreKindsIn, AreStrictKinds, HasFurther, IsBound, IsNumberTable, entries_from, entry_at, entry_for, leaves_open}
-use Rattle.rj_command.specs.Operands.{AreHeaders, header_table}
-use Rattle.rj_command.specs.Sides.{delimiter_of, nulls_of, types_of}
+use Rattle.rj_command.specs.Operands.{AreHeaders}
+use Rattle.rj_command.specs.Sides.{delimiter_of, types_of}
 use Rattle.rj_command.specs.Undeclared.{is_undeclared}
 
 -- records that don't read as texts suggest no types
@@ -58,10 +57,6 @@ number_under d bytes header rest None is none = λ t table.
     none t (subst (λ (h : List (List ℕ)). empty_table h (replicate (length h) kind.Int) ≡ Ok t) named table.3)
 number_under d bytes header rest (Some t) is made = (header, rest, is, made)
 
--- a text without a record has none
-pub number_missing : (d : ℕ) (bytes : List ℕ) (t : TableValue) → records (config_of d) (strip_bom bytes) ≡ [] → IsNumberTable d bytes t → ⊥
-number_missing d bytes t none table = let same : ◌≡◌ {A = List (List (List ℕ))} (table.0 ∷ table.1) [] = sym table.2 ∙ none in cc
-
 -- one more entry, and those of the columns behind
 pub entry_next : (q : Request) (s : Side) (compared : ℕ → Bool) (kinds : List ColumnType) (names : List (List ℕ)) (i : ℕ) (name : List ℕ) (done : List TypeEntry)
     (entry : Option TypeEntry) → slice_get names i ≡ Some name → entry ≡ entry_at q s compared kinds i name
@@ -70,10 +65,6 @@ entry_next q s compared kinds names i name done entry is made =
     append_assoc done (option_to_list entry) (entries_from q s compared kinds (i + 1) (drop (i + 1) names))
     ∙ ap (λ l. done ++ l) (ap (λ e. option_to_list e ++ entries_from q s compared kinds (i + 1) (drop (i + 1) names)) made
     ∙ sym (ap (entries_from q s compared kinds i) (drop_get names i name is)))
-
--- a request with no further entry
-pub none_further : (q : Request) → HasFurther q q [] []
-none_further q = record { left_types = sym (append-nil _); right_types = sym (append-nil _); same = refl }
 
 taken_back : {A : Type 0} (xs ys : List A) → take (length xs) (xs ++ ys) ≡ xs ++ []
 taken_back xs ys = take-append_seam xs ys ∙ sym (append-nil xs)
@@ -114,13 +105,6 @@ module _ (q : Request) (s : Side) (compared : ℕ → Bool) (kinds : List Column
   undeclared_by b v opens entries is opened listed so = sym (is ∙ ap₂ (λ o es. is_undeclared o es name) opened listed) ∙ so
 
 module _ (left right : List ℕ) (q : Request) where
-  -- a clause isn't bound to headers where a header makes no table
-  pub unbound_left : IsErr (header_table q side.Left left) → IsBound left right q → ⊥
-  unbound_left refused is = let no = rw is.2.left_header at refused in true≢false (sym no)
-
-  pub unbound_right : IsErr (header_table q side.Right right) → IsBound left right q → ⊥
-  unbound_right refused is = let no = rw is.2.right_header at refused in true≢false (sym no)
-
   -- nor where it has an error over them
   pub unbound_clause : (one : (text : List ℕ) (c d : Clause) → HasClause text c → HasClause text d → c ≡ d) (c : Clause) (l r : TableValue) → HasClause q.clause.now c
       → AreHeaders left right q l r → IsErr (bound c l r) → IsBound left right q → ⊥

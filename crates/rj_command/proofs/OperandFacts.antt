@@ -1,6 +1,6 @@
 -- Which fault is the first.
 use Rattle.std.proofs.Common.{◌≡◌, ◌≢◌, ◌∙◌, ◌⊎◌, Bool, inl, inr, true, false, true≢false, List, None, Option, Result, Some, ℕ, Err, ap, ap₂, sym, subst}
-use Rattle.std.specs.Prelude.{IfErr, IfOk, IsErr, Ok, if◌then◌else◌}
+use Rattle.std.specs.Prelude.{if◌then◌else◌, IfErr, IfOk, Ok}
 use Rattle.rj_columns.specs.Tables.{TableValue}
 use Rattle.rj_condition.specs.Bound.{bound}
 use Rattle.rj_condition.specs.Fits.{fits}
@@ -13,7 +13,7 @@ use Rattle.rj_line.specs.declared.fault.Fault.TheVariants as fault
 use Rattle.rj_line.specs.declared.fault.Side.{Side}
 use Rattle.rj_line.specs.declared.fault.Side.TheVariants as side
 use Rattle.rj_line.specs.declared.request.Request.{Request}
-use Rattle.rj_command.specs.Operands.{AreHeaders, HasNames, HasNoHeaderFault, IsClauseFault, IsFirstFault, IsHeaderFault, IsJoinAsked, IsJoinFault, IsNameFault, header_table, in_clause, in_headers, in_left, in_right, of_clause, of_text, of_types, shared_fault, unbound, unread}
+use Rattle.rj_command.specs.Operands.{AreHeaders, HasNames, HasNoHeaderFault, IsClauseFault, IsFirstFault, IsHeaderFault, IsJoinAsked, IsJoinFault, IsNameFault, in_clause, in_headers, in_left, in_right, of_clause, of_text, of_types, shared_fault, unbound, unread}
 use Rattle.rj_command.specs.Refused.{bind_fault, parse_fault}
 use Rattle.rj_command.specs.SuchRows.{asked_for, unkept_side, unless_unkept, with_rows}
 use Rattle.rj_command.specs.Undeclared.{bound_or, undeclared_fault}
@@ -93,13 +93,6 @@ module _ (named : Bool) (left right : List ℕ) (q : Request) where
   none_by_nulls unlawful = record {
     binds = λ short l r are. let no : ◌≡◌ {A = Result TableValue Fault} (Err fault.BadNull) (Ok l) = rw unlawful at are.left_header in absurd (cc);
   }
-
-  -- nor where a header makes no table
-  pub none_by_left : IsErr (header_table q side.Left left) → HasNoHeaderFault named left right q
-  none_by_left refused = record { binds = λ short l r are. let no = rw are.left_header at refused in absurd (true≢false (sym no)) }
-
-  pub none_by_right : IsErr (header_table q side.Right right) → HasNoHeaderFault named left right q
-  none_by_right refused = record { binds = λ short l r are. let no = rw are.right_header at refused in absurd (true≢false (sym no)) }
 
   module _ (l r : TableValue) (are : AreHeaders left right q l r) where
     -- nor where it is bound to both, and the columns have names

@@ -1,7 +1,6 @@
 -- Bad cells of a column, row by row.
-use Rattle.std.proofs.Common.{◌≡◌, ◌<◌, ◌≤◌, ◌+◌, ◌++◌, ℕ, zero, suc, List, Bool, true, false, Result, Ok, Err, Option, Some, None, inl, inr, refl, sym, subst, arith, w64, ℤ}
-use Rattle.std.specs.Prelude.{◌-◌, IsUtf8, MatchResult, is_none, is_ok, if◌then◌else◌, not}
-use Rattle.std.specs.Option.{option_map}
+use Rattle.std.proofs.Common.{◌≡◌, ◌<◌, ◌≤◌, ◌+◌, ◌++◌, ℕ, zero, suc, List, false, Result, Ok, Err, inl, inr, refl, sym, subst, arith, w64, ℤ}
+use Rattle.std.specs.Prelude.{◌-◌, IsUtf8, MatchResult, is_ok}
 use Rattle.std.specs.Str.{is_utf8}
 use Rattle.std.specs.Str.Parse.{ParsesSigned}
 use Rattle.std.proofs.Math.Nat.{eq-or-lt_of_le}
@@ -17,15 +16,6 @@ pub int_parses : {E : Type 0} → (bytes : List ℕ) (r : Result ℤ E) → Pars
 int_parses {E} bytes (Ok n) h = sym (parsed-ok {E = E} bytes (Ok n) n h refl).0
 int_parses {E} bytes (Err x) h = sym (parsed-err {E = E} bytes (Err x) x h refl)
 
--- a reading of a field that a test decides
-pub none_unless : {A : Type 0} (b : Bool) (x : A) → is_none (if b then Some x else None) ≡ not b
-none_unless true x = refl
-none_unless false x = refl
-
-pub none_map : {A B : Type 0} (f : A → B) (o : Option A) → is_none (option_map f o) ≡ is_none o
-none_map f None = refl
-none_map f (Some x) = refl
-
 -- no row is between one and itself
 pub good_none : (c : TypedColumn) (from : ℕ) → AreGood c from from
 good_none c from = λ row behind within. absurd (omega arith)
@@ -37,10 +27,6 @@ good_more c from row line fields above here good = λ i behind within. let low :
   | inl e ↦ (line, fields, subst (λ (r : ℕ). IsRowOf c r line fields) (sym e) here, good)
   | inr less ↦ above i behind less
 ]
-
--- a text that has no record of a row has none below it
-pub no_row_below : (d : ℕ) (text : List ℕ) (row below : ℕ) → row ≤ below → HasNoRow d text row → HasNoRow d text below
-no_row_below d text row below few h = (h.0, h.1, omega (arith, few, h.2))
 
 pub none_below : (c : TypedColumn) (row : ℕ) → HasNoRow c.delimiter c.text.now row → HasNoBad c row
 none_below c row h = record { end = row; good = good_none c row; last = h }

@@ -32,15 +32,9 @@ find-more p xs i x here other = sym (ap (find p) (left-at xs i x here) ∙ ap (�
 pub find-here : {A : Type 0} (p : A → Bool) (xs : List A) (i : ℕ) (x : A) → slice_get xs i ≡ Some x → p x ≡ true → Some x ≡ find p (drop i xs)
 find-here p xs i x here passes = sym (ap (find p) (left-at xs i x here) ∙ ap (λ (b : Bool). cond b (Some x) (find p (drop (i + 1) xs))) passes)
 
-pub find-end : {A : Type 0} (p : A → Bool) (xs : List A) (i : ℕ) → length xs ≤ i → None ≡ find p (drop i xs)
-find-end p xs i low = sym (ap (find p) (left-none xs i low))
-
 -- the same of whether one passes
 pub any-more : {A : Type 0} (p : A → Bool) (xs : List A) (i : ℕ) (x : A) → slice_get xs i ≡ Some x → p x ≡ false → list_any p (drop (i + 1) xs) ≡ list_any p (drop i xs)
 any-more p xs i x here other = sym (ap (list_any p) (left-at xs i x here) ∙ ap (λ (b : Bool). b || list_any p (drop (i + 1) xs)) other)
 
 pub any-here : {A : Type 0} (p : A → Bool) (xs : List A) (i : ℕ) (x : A) → slice_get xs i ≡ Some x → p x ≡ true → true ≡ list_any p (drop i xs)
 any-here p xs i x here passes = sym (ap (list_any p) (left-at xs i x here) ∙ ap (λ (b : Bool). b || list_any p (drop (i + 1) xs)) passes)
-
-pub any-end : {A : Type 0} (p : A → Bool) (xs : List A) (i : ℕ) → length xs ≤ i → false ≡ list_any p (drop i xs)
-any-end p xs i low = sym (ap (list_any p) (left-none xs i low))

@@ -1,6 +1,6 @@
 -- Names with commas between, one by one.
 use Rattle.std.proofs.Common.{◌≡◌, ◌∙◌, ℕ, zero, suc, ◌+◌, ◌<◌, ◌==◌, Bor, List, [], ◌∷◌, ◌++◌, codes, get_or, length, map, take, refl, sym, ap, arith, append_assoc, append-nil, add-one, ne_eqb}
-use Rattle.std.specs.Prelude.{Option, None, Some, if◌then◌else◌, option_map, slice_get, slice_index_or}
+use Rattle.std.specs.Prelude.{if◌then◌else◌, Option, None, Some, option_map, slice_get, slice_index_or}
 use Rattle.std.specs.List.{flat_map}
 use Rattle.std.proofs.lemmas.Grind.{flat_map-append}
 use Rattle.rj_explain.specs.Lines.{repeated_at, repeated_line}
@@ -23,9 +23,6 @@ take-get [] zero x e = absurd (none-some x e)
 take-get [] (suc i) x e = absurd (none-some x e)
 take-get (n ∷ ns) zero x e = ap (λ y. y ∷ []) (ap (value_or n) e)
 take-get (n ∷ ns) (suc j) x e = ap (λ ys. n ∷ ys) (take-get ns j x e)
-
-pub take-more : (xs : List (List ℕ)) (i : ℕ) (x : List ℕ) → slice_get xs i ≡ Some x → take (i + 1) xs ≡ take i xs ++ x ∷ []
-take-more xs i x e = rw add-one (take-get xs i x e)
 
 -- a comma and a name
 abbrev comma : List ℕ → List ℕ

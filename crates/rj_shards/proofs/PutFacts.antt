@@ -9,9 +9,6 @@ use Rattle.rj_shards.specs.Divisions.{IsAppendedOrNot}
 use borrow.Author.Count.{below_more}
 
 module _ {O : Type 0} (count : O → ℕ) where
-  same-many : (old now : List O) → map count now ≡ map count old → length now ≡ length old
-  same-many old now h = sym (length-map now count) ∙ (ap (length {A = ℕ}) h ∙ length-map old count)
-
   count-at : (old now : List O) (p : ℕ) (x : O) → map count now ≡ map count old → p < length now → get_or now p x ≡ x → count x ≡ get_or (map count old) p 0
   count-at old now p x h low is = sym (ap count is) ∙ (sym (get_or-map count now p x 0 low) ∙ ap (λ (l : List ℕ). get_or l p 0) h)
 

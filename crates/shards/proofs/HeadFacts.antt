@@ -1,11 +1,8 @@
 -- The first line of a text, and a byte order mark, in a text that continues.
-use Rattle.std.proofs.Common.{◌≡◌, ◌≢◌, ◌∙◌, ◌<◌, ◌≤◌, ◌+◌, ◌-◌, ◌++◌, ◌∷◌, ℕ, suc, List, [], length, take, drop, get_or, Bool, true, false, Option, Some, None, refl, sym, ap, subst, arith, inl, inr, not}
+use Rattle.std.proofs.Common.{◌≡◌, ◌≢◌, ◌∙◌, ◌≤◌, ◌+◌, ◌-◌, ◌++◌, ◌∷◌, ℕ, List, [], length, take, drop, Bool, true, false, Option, Some, None, refl, sym, ap, subst, arith, not}
 use Rattle.std.specs.Prelude.{if◌then◌else◌, ◌==◌}
 use Rattle.std.specs.Io.KnownBytes.{Consumes, IsAtEnd}
-use Rattle.std.proofs.Math.Seq.{take-suc}
-use Rattle.std.proofs.Math.ListN.{get_or-append}
 use Rattle.std.proofs.lemmas.List.{append-nil, length-append, length-take-le, take-append-le}
-use Rattle.std.proofs.lemmas.List.Sums.{fold-append}
 use Rattle.std.proofs.Math.Seq.{take-length}
 use Rattle.std.proofs.lemmas.Bool.{false≢true}
 use Rattle.csv.specs.Reading.{is_bom, records, strip_bom}
@@ -20,42 +17,15 @@ use Rattle.rj_line.specs.Faults.{read_fault}
 use Rattle.rj_line.specs.declared.fault.Fault.{Fault}
 use Rattle.rj_line.specs.declared.fault.Side.{Side}
 use Rattle.rj_line.specs.declared.request.Strictness.{Strictness}
-use Rattle.shards.specs.Heads.{Continues, HasNoFeed, IsFeed, IsFirstLine, IsFirstRecord, IsHeadFault, IsTold, is_open, mark_length}
+use Rattle.shards.specs.Heads.{Continues, IsFirstLine, IsFirstRecord, IsHeadFault, IsTold, mark_length}
 
 abbrev turn : Bool → ℕ → Bool
 turn opened c = if c == 34 then not opened else opened
 
--- one byte more
-pub open-next : (text : List ℕ) (at : ℕ) → at < length text → is_open (take (at + 1) text) ≡ turn (is_open (take at text)) (get_or text at 0)
-open-next text at lt =
-    let next : at + 1 ≡ suc at = omega arith in
-    ap (λ n. is_open (take n text)) next ∙ (ap is_open (take-suc text at 0 lt) ∙ fold-append turn false (take at text) (get_or text at 0 ∷ []))
-
 -- a line feed stays where it is in a text that continues
-pub feed-more : (text more : List ℕ) (at : ℕ) → IsFeed text at → IsFeed (text ++ more) at
-feed-more text more at feed = record {
-  within = omega (arith, length-append text more, feed.within);
-  feed = get_or-append text more 0 at feed.within ∙ feed.feed;
-  outside = ap is_open (take-append-le at text more (omega (arith, feed.within))) ∙ feed.outside;
 }
 
-pub feed-less : (text more : List ℕ) (at : ℕ) → at < length text → IsFeed (text ++ more) at → IsFeed text at
-feed-less text more at lt feed = record {
-  within = lt;
-  feed = sym (get_or-append text more 0 at lt) ∙ feed.feed;
-  outside = sym (ap is_open (take-append-le at text more (omega (arith, lt)))) ∙ feed.outside;
 }
-
--- a first line that ends stays the first line
-pub ended-line : (text more : List ℕ) (at n : ℕ) → IsFeed text at → HasNoFeed text at → n ≡ at + 1 → IsFirstLine (text ++ more) n
-ended-line text more at n feed none is =
-    inl (at, feed-more text more at feed, (λ k lt f. none k lt (feed-less text more k (omega (arith, lt, feed.within)) f)), is)
-
--- a text that doesn't continue is its first line, if no line ends in it
-pub only-line : (text more : List ℕ) → HasNoFeed text (length text) → more ≡ [] → IsFirstLine (text ++ more) (length text)
-only-line text more none empty =
-    let same : text ≡ text ++ more = sym (append-nil text) ∙ ap (λ x. text ++ x) (sym empty) in
-    subst (λ t. IsFirstLine t (length text)) same (inr (none, refl))
 
 if-append : (b : Bool) (x y more : List ℕ) → (if b then x ++ more else y ++ more) ≡ (if b then x else y) ++ more
 if-append true x y more = refl
