@@ -12,7 +12,6 @@ use Rattle.clap.specs.Built.{AddsArg, AddsInTurn, FitsChain, HasDistinctIds, IsP
 use Rattle.clap.specs.Simple.{app_of}
 use Rattle.clap.specs.Walk.{Rule, Text, is_empty, is_simple_arg, rule_of}
 use Rattle.clap.specs.Simple.{new_rule}
-use Rattle.clap.specs.Words.{App, with_rule}
 use Rattle.clap.specs.declared.builder.ArgAction.{ArgAction}
 use Rattle.clap.specs.declared.builder.ArgAction.TheVariants.{Set}
 use Rattle.clap.specs.declared.builder.arg.Arg.{Arg}
@@ -104,10 +103,6 @@ all_fit xs rules is fits = λ k d lt. fits_chain (slice_index_or xs k d) (each_r
 pub chain_app : (start command : Command) (rules : List Rule) → IsChain start rules command → list_all fits_option rules ≡ true → app_of command ≡ with_rules (app_of start) rules
 chain_app start command rules chain fits =
     turns_app start command chain.0 chain.1 (all_fit chain.0 rules chain.2 fits) ∙ ap (with_rules (app_of start)) chain.2
-
--- a command with one more argument has one more rule
-pub one_more : (app : App) (r : Rule) (old new : Command) (a : Arg) → app_of old ≡ app → rule_of a ≡ r → a.global ≡ false → AddsArg old a new → app_of new ≡ with_rule app r
-one_more app r old new a is rule local added = added.shape local ∙ ap₂ with_rule is rule
 
 -- no two rules have one id
 abbrev pub are_distinct : List Rule → Bool

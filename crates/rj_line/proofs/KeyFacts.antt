@@ -126,9 +126,6 @@ module _ {K : Type 0} (holds : K → Content → Bool) (t : TableValue) (col : �
   abbrev pub AreSeen : ℕ → (K → Bool) → Type 0
   AreSeen row has = (q : K) → (has q ≡ true) ↔ ((i : ℕ) × (i < row) × (holds q (cell_of t i col) ≡ true))
 
-  pub none-seen : (has : K → Bool) → ((q : K) → has q ≡ false) → AreSeen 0 has
-  none-seen has none q = (λ h. let no : false ≡ true = sym (none q) ∙ h in absurd cc, λ (i, inside, is). absurd (omega (arith, inside)))
-
   -- one cell more
   pub one-more : (row : ℕ) (old new : K → Bool) (eq : K → Bool) → AreSeen row old → ((q : K) → eq q ≡ holds q (cell_of t row col)) → ((q : K) → new q ≡ cond (eq q) true (old q))
       → AreSeen (row + 1) new

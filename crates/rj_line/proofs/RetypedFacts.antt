@@ -309,14 +309,3 @@ types-under nulls header rest kinds u e = by_header (empty_table header kinds) r
     by_header : (b : Result TableValue BuildRefused) → empty_table header kinds ≡ b → u.types ≡ kinds
     by_header (Err x) is = let no : Err (of_begun x) ≡ Ok u = rw is at e in absurd cc
     by_header (Ok b) is = by_rows b is (read_rows nulls kinds [] rest) refl
-
-pub types-read : (rs : List (List (List ℕ))) (kinds : List ColumnType) (nulls : List (List ℕ)) (u : TableValue) → records_read rs kinds nulls ≡ Ok u → u.types ≡ kinds
-types-read rs kinds nulls u e = by_null (are_null_texts nulls) refl
-  where
-    by_records : (all : List (List (List ℕ))) → read_records nulls kinds all ≡ Ok u → u.types ≡ kinds
-    by_records [] got = let no : Err refused.NoHeader ≡ Ok u = got in absurd cc
-    by_records (header ∷ rest) got = types-under nulls header rest kinds u got
-
-    by_null : (b : Bool) → are_null_texts nulls ≡ b → u.types ≡ kinds
-    by_null false is = let no : Err refused.BadNull ≡ Ok u = rw is at e in absurd cc
-    by_null true is = by_records rs (rw is at e)

@@ -25,18 +25,11 @@ use Rattle.rj_merge.specs.Sources.{Reading}
 use Rattle.rj_merge.specs.Texts.{read_rows}
 use Rattle.rj_merge.proofs.HeadFacts.{fault_first}
 
--- what a text gives that has no record, or a header that is the first one's or not
+-- what a text gives whose header is the first one's
 module _ (how : MergeOptions) (first : List (List ℕ)) (input : ℕ) where
-  pub of-none : (records : List (List (List ℕ))) → records ≡ [] → (reading_of_records how first input records).fault ≡ Some (refused.NoHeader input)
-  of-none records e = rw e refl
-
   pub of-header : (records more : List (List (List ℕ))) (header : List (List ℕ)) (columns : Columns) → records ≡ header ∷ more → pointwise bytes_eq header first ≡ true
       → place_columns first ≡ Some columns → reading_of_records how first input records ≡ reading_within how (read_rows how columns input 0 None more)
   of-header records more header columns e same places = rw (e, same, places) refl
-
-  pub of-other : (records more : List (List (List ℕ))) (header : List (List ℕ)) → records ≡ header ∷ more → pointwise bytes_eq header first ≡ false
-      → (reading_of_records how first input records).fault ≡ Some (refused.OtherHeader input)
-  of-other records more header e other = rw (e, other) refl
 
 -- whether such a header has a fault
 module _ (first : List (List ℕ)) (input : ℕ) where

@@ -1,6 +1,6 @@
 -- The first line of a text, and a byte order mark, in a text that continues.
 use Rattle.std.proofs.Common.{◌≡◌, ◌≢◌, ◌∙◌, ◌≤◌, ◌+◌, ◌-◌, ◌++◌, ◌∷◌, ℕ, List, [], length, take, drop, Bool, true, false, Option, Some, None, refl, sym, ap, subst, arith, not}
-use Rattle.std.specs.Prelude.{if◌then◌else◌, ◌==◌}
+use Rattle.std.specs.Prelude.{if◌then◌else◌}
 use Rattle.std.specs.Io.KnownBytes.{Consumes, IsAtEnd}
 use Rattle.std.proofs.lemmas.List.{append-nil, length-append, length-take-le, take-append-le}
 use Rattle.std.proofs.Math.Seq.{take-length}
@@ -18,14 +18,6 @@ use Rattle.rj_line.specs.declared.fault.Fault.{Fault}
 use Rattle.rj_line.specs.declared.fault.Side.{Side}
 use Rattle.rj_line.specs.declared.request.Strictness.{Strictness}
 use Rattle.shards.specs.Heads.{Continues, IsFirstLine, IsFirstRecord, IsHeadFault, IsTold, mark_length}
-
-abbrev turn : Bool → ℕ → Bool
-turn opened c = if c == 34 then not opened else opened
-
--- a line feed stays where it is in a text that continues
-}
-
-}
 
 if-append : (b : Bool) (x y more : List ℕ) → (if b then x ++ more else y ++ more) ≡ (if b then x else y) ++ more
 if-append true x y more = refl

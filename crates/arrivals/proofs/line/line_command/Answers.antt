@@ -1,10 +1,15 @@
-use Rattle.std.proofs.Common.{◌≡◌, ◌∙◌, ap, codes, rules, true}
+use Rattle.std.proofs.Common.{◌≡◌, ◌∙◌, ap, ap₂, codes, rules, true, false}
 use Rattle.std.proofs.lemmas.Result.{IfOk-weaker}
 use Rattle.clap.specs.Simple.{app_of_fields, on_top}
-use Rattle.clap.specs.Words.{app_of, new_app}
-use Rattle.rj_line.proofs.ChainFacts.{one_more}
+use Rattle.clap.specs.Words.{AddsArg, App, Rule, app_of, new_app, rule_of, with_rule}
+use Rattle.clap.specs.declared.builder.arg.Arg.{Arg}
+use Rattle.clap.specs.declared.builder.command.Command.{Command}
 use Rattle.arrivals.specs.Lines.{line_app}
 use Rattle.arrivals.proofs.line.line_command.Goals as goal
+
+-- a command with one more argument has one more rule
+one_more : (app : App) (r : Rule) (old new : Command) (a : Arg) → app_of old ≡ app → rule_of a ≡ r → a.global ≡ false → AddsArg old a new → app_of new ≡ with_rule app r
+one_more app r old new a is rule local added = added.shape local ∙ ap₂ with_rule is rule
 
 pub returns : goal.returns
 returns c =

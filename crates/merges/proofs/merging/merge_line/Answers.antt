@@ -45,5 +45,5 @@ returns-in-Err-clause-count g c =
           c.in-Err.ensures.count.0 (ap Err failed),
       λ other. c.in-Err.ensures.count.1 (λ same.
           let is : c.in-Err.refused ≡ refused.WriteDevice = cc in
-          other (ap Err (failed_output (names c.args.line.now) c.in-Err.refused c.of.result named is)))
+          other (ap Err (failed_output (names c.args.line.now) c.in-Err.refused c.of.result named is))),
     )

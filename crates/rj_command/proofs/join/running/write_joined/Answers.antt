@@ -39,8 +39,11 @@ returns-in_err-write_chosen-clause-failed g c = λ failed.
     (p.stats, ready_of _ _ p c.in_ok-prepared.ensures.prepared)
 
 pub returns-in_err-write_chosen-clause-count : goal.returns-in_err-write_chosen-clause-count
-returns-in_err-write_chosen-clause-count g c = (search rules, λ other. c.in_err-write_chosen.ensures.count.1 (λ same.
-    let told = err_from_is_err_and c.from_residual-in_err-write_chosen.result c.from_residual-in_err-write_chosen.ensures.1 in
-    let device : c.in_err-write_chosen.field-0.0 ≡ refused.WriteDevice
-    = subst (λ (w : Result (Unit {0}) WriteRefused). IfErr w (λ x. x ≡ refused.WriteDevice)) (sym same) refl in
-    other (told.1 ∙ ap Err (told.2 ∙ ap write_fault device))))
+returns-in_err-write_chosen-clause-count g c = (
+  search rules,
+  λ other. c.in_err-write_chosen.ensures.count.1 (λ same.
+      let told = err_from_is_err_and c.from_residual-in_err-write_chosen.result c.from_residual-in_err-write_chosen.ensures.1 in
+      let device : c.in_err-write_chosen.field-0.0 ≡ refused.WriteDevice
+      = subst (λ (w : Result (Unit {0}) WriteRefused). IfErr w (λ x. x ≡ refused.WriteDevice)) (sym same) refl in
+      other (told.1 ∙ ap Err (told.2 ∙ ap write_fault device))),
+)
