@@ -293,19 +293,3 @@ file-retyped d bytes nulls kinds t e size h = by_null (are_null_texts nulls) ref
     by_null : (b : Bool) → are_null_texts nulls ≡ b → (u : TableValue) × (read_of d bytes kinds nulls ≡ Ok u)
     by_null false is = let no : Err refused.BadNull ≡ Ok t = rw is at e in absurd cc
     by_null true is = by_records (records (config_of d) (strip_bom bytes)) is e
-
--- a table that was read has the types that it was read with
-types-under : (nulls : List (List ℕ)) (header : List (List ℕ)) (rest : List (List (List ℕ))) (kinds : List ColumnType) (u : TableValue)
-    → read_records nulls kinds (header ∷ rest) ≡ Ok u → u.types ≡ kinds
-types-under nulls header rest kinds u e = by_header (empty_table header kinds) refl
-  where
-    by_rows : (b : TableValue) → empty_table header kinds ≡ Ok b → (r : Result (List (List Content)) ReadRefused) → read_rows nulls kinds [] rest ≡ r → u.types ≡ kinds
-    by_rows b begins (Err x) is = let no : Err x ≡ Ok u = rw (begins, is) at e in absurd cc
-    by_rows b begins (Ok rows) is =
-        let got : Ok (record b { rows = rows }) ≡ Ok u = rw (begins, is) at e in
-        let q : record b { rows = rows } ≡ u = cc in
-        ap (λ (v : TableValue). v.types) (sym q) ∙ ap (λ (v : TableValue). v.types) (empty_table-retyped header kinds kinds b refl begins).1
-
-    by_header : (b : Result TableValue BuildRefused) → empty_table header kinds ≡ b → u.types ≡ kinds
-    by_header (Err x) is = let no : Err (of_begun x) ≡ Ok u = rw is at e in absurd cc
-    by_header (Ok b) is = by_rows b is (read_rows nulls kinds [] rest) refl
