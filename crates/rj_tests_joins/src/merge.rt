@@ -1,10 +1,9 @@
 //! Texts of placed rows, merged by readers that signals interrupt, and that fail.
 
-use rj_csv_io::CountedWriter;
 use rj_csv_io::strict::Delimiter;
+use rj_csv_io::{CountedWriter, RetryingReader};
 use rj_merge::{
-    Copies, MergeInput, MergeOptions, MergeRefused, MergeTextsRefused, RetryingReader, RowOrder,
-    merge_texts,
+    Copies, MergeInput, MergeOptions, MergeRefused, MergeTextsRefused, RowOrder, merge_texts,
 };
 use std::alloc::Global;
 use std::io;
