@@ -1,4 +1,6 @@
 """Random cases: a program, its words, its files and its standard input."""
+import re
+
 import fuzz_clauses
 
 KINDS = ("clauses", "files", "joins", "scripts", "lines")
@@ -62,6 +64,9 @@ SCRIPT_PIECES = [b" ", b"  ", b"\n", b"\r\n", b"\r", b"0", b"1", b"-1", b"+1", b
 # Lists of kinds of rows; left rows that are in a pair are refused with other columns than the left ones.
 ROWS = [b"pairs", b"lone-left", b"lone-right", b"lone-right,pairs", b"lone-left,lone-right", b"matched-left", b"matched-left,lone-left", b"lone-right,matched-left"]
 LINE_PIECES = [b"-", b"--", b"=", b"--left", b"--help", b"-h", b"--stats", b"--gaps", b"--null=", b"--bits1", b"--workers=64", b"--block", b"--lanes=4", b"--capacity", b"--retries=3", b"--bits2", b"--hash", b"mixed", b"plain", b"--piece=1", b"1048577", b"--version", b"-V", b"11", b"10", b"", b"\xff", b"int", b",", b"text", b" ", b"a", b"--join", b"0", b"--partition=1024", b"-1", b"-w2", b"-w", b"--terse", b"--lenient", b"-d", b"-d;", b"--delimiter", b"--out-delimiter=tab", b"tab", b"\\t", b";", b"\t"]
+
+# A type that is given to a column by its name.
+BY_NAME = re.compile(rb"(^|=)[^-=][^=]*= *(int|text)")
 
 
 class Cases:
@@ -227,6 +232,6 @@ class Cases:
                 words[at], words[to] = words[to], words[at]
             if not words:
                 break
-        # (a table that goes to a file of a made-up name is no matter of the oracle: tests/output_file.py)
-        words = [word for word in words if not word.startswith((b"-o", b"--output"))]
+        # (a table that goes to a file of a made-up name is no matter of the oracle: tests/output_file.py; nor are types by name: tests/type_lists.py)
+        words = [word for word in words if not word.startswith((b"-o", b"--output")) and not BY_NAME.search(word)]
         return Case("lines", program, words, files, self.folder)
