@@ -124,12 +124,6 @@ size-none p s k xs ys l e none h =
       omega (arith, times-ge (digits_value 10 (xs ++ take k ys)) (10 ^ (s - k)) (ten_pow_pos (s - k)), size-kept s k xs ys e, below (size_at s xs ys) (10 ^ p) fit.1, pow-le p l),
     )
 
-pub size-zeros : (p s k : ℕ) (xs ys : List ℕ) → k ≡ min (length ys) s → are_zeros (drop k ys) ≡ false → IsSize p s xs ys → ⊥
-size-zeros p s k xs ys e z h =
-    let fit = both (are_zeros (drop s ys)) (nat_lt (size_at s xs ys) (10 ^ p)) h.2 in
-    let same = ap are_zeros (kept-drop s k ys e) in
-    cc
-
 pub size-some : (p s k v : ℕ) (xs ys : List ℕ) (r : Option ℕ) → k ≡ min (length ys) s → all_ascii_digits (xs ++ take k ys) ≡ true → v ≡ digits_value 10 (xs ++ take k ys) → are_zeros (drop k ys) ≡ true
     → SomeIff r (v * 10 ^ (s - k) < 10 ^ p) (v * 10 ^ (s - k)) → SomeIff r (IsSize p s xs ys) (size_at s xs ys)
 size-some p s k v xs ys r e d n z h =

@@ -1,8 +1,7 @@
 -- The digits of numbers.
 use Rattle.std.proofs.Common.{◌≡◌, ℕ, zero, suc, ◌+◌, ◌*◌, ◌-◌, ◌/◌, ◌%◌, ◌^◌, ◌<◌, ◌≤◌, List, [], ◌∷◌, ◌++◌, drop, length, set, append_assoc, refl, sym, ap, ◌∙◌, inl, inr, arith}
 use Rattle.std.proofs.lemmas.Bool.Decides.{nat_tests}
-use Rattle.std.specs.Prelude.{◌==◌, cond, false, ◌⊎◌, ℤ, pos, negsuc, ◌≤ℤ◌, ◌<ℤ◌, unsigned_abs}
-use Rattle.std.proofs.lemmas.Int.{ints}
+use Rattle.std.specs.Prelude.{◌==◌, cond, false, ◌⊎◌, ℤ, pos, negsuc, ◌≤ℤ◌, ◌<ℤ◌}
 use Rattle.rj_columns.proofs.Shifts.{ten_pow_pos}
 use Rattle.std.specs.Fmt.{decimal, signed_decimal}
 use Rattle.std.proofs.lemmas.Bool.{cases_lt}
@@ -11,7 +10,7 @@ use Rattle.std.proofs.Math.Nat.{div-div-eq-div-mul, div-lt_iff_lt-mul, pow-le-po
 use Rattle.std.proofs.lemmas.Nat.{pow-add}
 use Rattle.std.proofs.lemmas.List.{append-nil, drop-set, drop_all}
 use Rattle.std.proofs.lemmas.Fmt.{decimal_digit, decimal_step_wide}
-use Rattle.rj_columns.specs.NumbersWritten.{fraction_text, last_digits, size_text, text_of}
+use Rattle.rj_columns.specs.NumbersWritten.{fraction_text, last_digits, text_of}
 
 -- the digits that are still to be written before others
 abbrev pub digits_left : ℕ → List ℕ
@@ -73,15 +72,6 @@ whole-room n s e small room some =
     let ten : 0 < 10 = omega arith in
     let digits : 10 ^ 39 ≤ 10 ^ ((e - 1) + s) = pow-le-pow_right ten more in
     (div-lt_iff_lt-mul (ten_pow_pos s)).1 (omega (arith, digits, pow-add 10 (e - 1) s))
-
--- the sign and the size
-pub text-above : (s : ℕ) (u : ℤ) → pos 0 ≤ℤ u → text_of s u ≡ size_text s (unsigned_abs u)
-text-above s (pos n) h = refl
-text-above s (negsuc n) h = absurd (omega (arith, ints))
-
-pub text-below : (s : ℕ) (u : ℤ) → u <ℤ pos 0 → text_of s u ≡ 45 ∷ size_text s (unsigned_abs u)
-text-below s (pos n) h = absurd (omega (arith, ints))
-text-below s (negsuc n) h = refl
 
 -- what is not 0 has a digit, and what is 10 or more has two
 pub more-room : (n k : ℕ) → 0 < n → n < 10 ^ k → 1 ≤ k

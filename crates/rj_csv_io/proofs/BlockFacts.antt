@@ -1,8 +1,8 @@
 -- Where a cell of a block stands.
-use Rattle.std.proofs.Common.{◌≡◌, ◌≤◌, ◌<◌, ◌+◌, ◌-◌, ◌∙◌, ℕ, zero, suc, List, [], ◌∷◌, ◌++◌, map, length, refl, sym, ap, arith, inl, inr, add-one, append_assoc, take}
+use Rattle.std.proofs.Common.{◌≡◌, ◌≤◌, ◌<◌, ◌+◌, ◌-◌, ◌∙◌, ℕ, zero, suc, List, [], ◌∷◌, ◌++◌, map, length, refl, sym, ap, arith, inl, inr, add-one, take}
 use Rattle.std.specs.Prelude.{slice_index_or}
 use Rattle.std.proofs.lemmas.Bool.{cases_lt}
-use Rattle.std.proofs.lemmas.List.{length-append, length-map, get_or_push, get_or-append-add, get_or-map, append-nil, map-append, take_more}
+use Rattle.std.proofs.lemmas.List.{length-append, length-map, get_or_push, get_or-append-add, get_or-map, map-append, take_more}
 use Rattle.std.proofs.Math.ListN.{get_or-append}
 use Rattle.rj_columns.specs.Contents.{Content, content_of, nothing}
 use Rattle.rj_columns.specs.declared.cell.Cell.{Cell}
@@ -81,23 +81,6 @@ block-at rows from n (suc width) col r h k =
           let e : col ≡ width = omega arith in
           rw (e, ← size, get_or-append-add (block_of rows from n width) (part_of rows width from n) r nothing) (part-at rows width from n r k)
     ]
-
--- before the first cell of a column, and after one more
-pub column-start : (rows : List (List Content)) (col from : ℕ) (base : List Content) → base ≡ base ++ part_of rows col from (from - from)
-column-start rows col from base =
-    let none : from - from ≡ 0 = omega arith in
-    rw (none, part-none rows col from, append-nil) refl
-
-pub column-more : (rows : List (List Content)) (col from row : ℕ) (cells : List Cell) (x : Cell) (base : List Content) → from ≤ row
-    → map content_of cells ≡ base ++ part_of rows col from (row - from) → content_of x ≡ cell_in rows row col
-    → map content_of (cells ++ x ∷ []) ≡ base ++ part_of rows col from (row + 1 - from)
-column-more rows col from row cells x base low h e =
-    let step : row + 1 - from ≡ row - from + 1 = omega arith in
-    let back : from + (row - from) ≡ row = omega arith in
-    let more : part_of rows col from (row + 1 - from) ≡ part_of rows col from (row - from) ++ cell_in rows row col ∷ [] =
-    ap (part_of rows col from) step ∙ (part-more rows col from (row - from) ∙ ap (λ r. part_of rows col from (row - from) ++ cell_in rows r col ∷ []) back) in
-    let put : map content_of (cells ++ x ∷ []) ≡ map content_of cells ++ content_of x ∷ [] = rw map-append refl in
-    put ∙ (ap (λ t. t ++ content_of x ∷ []) h ∙ (ap (λ t. (base ++ part_of rows col from (row - from)) ++ t ∷ []) e ∙ (append_assoc base (part_of rows col from (row - from)) (cell_in rows row col ∷ []) ∙ ap (λ t. base ++ t) (sym more))))
 
 pub block-step : (rows : List (List Content)) (from n width : ℕ) (old now : List Content) → now ≡ old ++ part_of rows width from n → old ≡ block_of rows from n width → now ≡ block_of rows from n (width + 1)
 block-step rows from n width old now h e = h ∙ (ap (λ t. t ++ part_of rows width from n) e ∙ sym (block-more rows from n width))

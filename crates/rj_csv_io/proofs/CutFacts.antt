@@ -194,13 +194,6 @@ strip-plain (a ∷ []) h = refl
 strip-plain (a ∷ b ∷ []) h = refl
 strip-plain (a ∷ b ∷ c ∷ rest) h = rw h refl
 
-pub bom-size : (text : List ℕ) → has_bom text ≡ true → 3 ≤ length text
-unfolding has_bom
-bom-size [] h = absurd (false≢true h)
-bom-size (a ∷ []) h = absurd (false≢true h)
-bom-size (a ∷ b ∷ []) h = absurd (false≢true h)
-bom-size (a ∷ b ∷ c ∷ rest) h = omega arith
-
 pub all-none : (d : ℕ) → records_in_all d [] ≡ []
 unfolding records_in_all
 all-none d = refl

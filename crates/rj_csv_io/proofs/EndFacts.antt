@@ -2,7 +2,7 @@
 use Rattle.std.proofs.Common.{◌≡◌, ◌∙◌, ◌<◌, ◌≤◌, ◌+◌, ◌-◌, ℕ, zero, suc, List, [], ◌∷◌, ◌++◌, length, map, min, take, drop, refl, sym, ap, add-one, append_assoc, arith}
 use Rattle.std.specs.Prelude.{slice_index_or, unwrap_or}
 use Rattle.std.specs.List.{concat}
-use Rattle.std.proofs.lemmas.List.{append-nil, get_or-drop, get_or-map, get_or-take, length-append, length-drop, length-map, length-take, map-append, take_all, take_more}
+use Rattle.std.proofs.lemmas.List.{append-nil, get_or-drop, get_or-map, get_or-take, length-append, length-drop, length-map, length-take, map-append, take_more}
 use Rattle.std.proofs.Math.Seq.{drop-append_seam, take-add, take-append_seam}
 use Rattle.std.proofs.lemmas.List.{drop-drop}
 use Rattle.std.proofs.lemmas.List.Folds.{concat-append}
@@ -102,9 +102,6 @@ module _ (d : ℕ) (null : List ℕ) (rows : List (List Content)) where
       let at : slice_index_or (drop from rows) (i - from) [] ≡ slice_index_or rows i [] =
       get_or-drop from rows (i - from) [] ∙ ap (λ k. slice_index_or rows k []) (omega arith) in
       rw (next, more, map-append, at) refl
-
-  pub records-whole : records_between d null rows 0 (length rows) ≡ map (record_of d null) rows
-  records-whole = ap (map (record_of d null)) (take_all (length rows - 0) rows (omega arith))
 
   pub length-records : (from to : ℕ) → to ≤ length rows → length (records_between d null rows from to) ≡ to - from
   length-records from to h =

@@ -1,20 +1,11 @@
 -- The last columns that are shown, and the right rows of members.
-use Rattle.std.proofs.Common.{◌≡◌, ℕ, ◌+◌, ◌-◌, ◌<◌, ◌≤◌, false, List, [], ◌∷◌, ◌++◌, All, Some, ap, sym, subst, ◌∙◌, arith, length, map, take, drop, get_or}
+use Rattle.std.proofs.Common.{◌≡◌, ℕ, ◌+◌, ◌-◌, ◌<◌, ◌≤◌, List, [], ◌∷◌, ◌++◌, Some, ap, ◌∙◌, arith, length, map, take, drop, get_or}
 use Rattle.std.specs.Prelude.{slice_get}
-use Rattle.std.proofs.lemmas.List.{drop_more, get_or-drop, length-drop, map-append, take_more}
+use Rattle.std.proofs.lemmas.List.{get_or-drop, length-drop, map-append, take_more}
 use Rattle.std.proofs.lemmas.Option.{get_or_from_slice_get}
-use Rattle.std.proofs.lemmas.List.Elements.{All-cons}
 use Rattle.rj_engine.specs.declared.joined.JoinedRow.{JoinedRow}
-use Rattle.rj_engine.specs.declared.origin.Origin.{Origin}
-use Rattle.rj_engine.specs.Chosen.{is_of_left}
 use Rattle.rj_engine.specs.Ends.{right_row}
 use Rattle.rj_engine.specs.Shown.{rows_between}
-
--- one column more from the right table, before others
-pub right-before : (origins : List Origin) (k : ℕ) (o : Origin) → k < length origins → is_of_left (get_or origins k o) ≡ false
-    → All (λ o. is_of_left o ≡ false) (drop (k + 1) origins) → All (λ o. is_of_left o ≡ false) (drop k origins)
-right-before origins k o low here rest =
-    subst (All (λ o. is_of_left o ≡ false)) (sym (drop_more origins k o low)) (All-cons (λ o. is_of_left o ≡ false) (get_or origins k o) (drop (k + 1) origins) here rest)
 
 -- the right rows of one member more
 pub right-more : (none : ℕ) (rows : List JoinedRow) (from place : ℕ) (m : JoinedRow) → from ≤ place → place < length rows → slice_get rows place ≡ Some m
