@@ -5,7 +5,7 @@ use Rattle.std.proofs.lemmas.List.{length-map, map-append, get_or-map, take_all}
 use Rattle.std.proofs.Math.Seq.{take-suc}
 use Rattle.rj_columns.specs.Contents.{nothing}
 use Rattle.rj_columns.specs.Tables.{column_in}
-use Rattle.rj_columns.specs.Columns.{ColumnValue, row_at, rows_of, Filling, IsTyped, IsColumnOf}
+use Rattle.rj_columns.specs.Internal.Columns.{ColumnValue, row_at, rows_of, Filling, IsTyped, IsColumnOf}
 use Rattle.rj_columns.proofs.RowFacts.{Filling-full}
 
 -- the kind of a column by its number

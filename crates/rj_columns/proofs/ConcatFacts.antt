@@ -4,7 +4,7 @@ use Rattle.std.specs.Prelude.{All}
 use Rattle.std.proofs.lemmas.List.Elements.{All-append, All-tail, All-cons, All-nil}
 use Rattle.rj_columns.specs.declared.cell.ColumnType.{ColumnType}
 use Rattle.rj_columns.specs.Tables.{TableValue, rows_of_all, AreAlike, concatenated}
-use Rattle.rj_columns.specs.Segments.{table_in}
+use Rattle.rj_columns.specs.Internal.Segments.{table_in}
 use Rattle.rj_columns.proofs.SegmentFacts.{rows-more}
 
 pub alike-joined : (whole part new : TableValue) (rest : List TableValue) → AreAlike (whole ∷ part ∷ rest) → new ≡ record whole { rows = whole.rows ++ part.rows } → AreAlike (new ∷ rest)

@@ -11,7 +11,7 @@ use Rattle.std.proofs.lemmas.List.Elements.{All-head, All-tail, All-cons, All-ni
 use Rattle.std.proofs.lemmas.Map.Made.{is_some-lookup}
 use Rattle.indexmap.specs.IndexMap.{IndexMap, insert_entry}
 use Rattle.indexmap.proofs.CallerLemmas.{insert_entry-new}
-use Rattle.rj_columns.specs.Folded.{AreFolded}
+use Rattle.rj_columns.specs.Internal.Folded.{AreFolded}
 
 abbrev Entry : Type 0
 Entry = String Global × String Global

@@ -3,7 +3,7 @@ use Rattle.std.proofs.Common.{◌≡◌, ◌≤◌, ◌<◌, ◌+◌, ◌-◌, �
 use Rattle.std.specs.Prelude.{slice_get, slice_index_or, replicate}
 use Rattle.std.specs.List.{remove}
 use Rattle.std.proofs.lemmas.List.{length-append, length-replicate}
-use Rattle.rj_columns.specs.Nulls.{unless, with_nulls, marked_at}
+use Rattle.rj_columns.specs.Internal.Nulls.{unless, with_nulls, marked_at}
 
 pub push-value : {A : Type 0} (values : List A) (nulls : List Bool) (x : A) → length nulls ≤ length values → with_nulls (values ++ x ∷ []) nulls ≡ with_nulls values nulls ++ Some x ∷ []
 unfolding with_nulls

@@ -8,7 +8,7 @@ use Rattle.std.proofs.lemmas.List.Folds.{concat-append}
 use Rattle.std.proofs.Math.ListN.{get_or-append}
 use Rattle.std.proofs.Common.{inl, inr, ◌⊎◌}
 use Rattle.std.proofs.Math.Seq.{drop-append_seam, take-append_seam}
-use Rattle.rj_columns.specs.Packed.{start_at, texts_from, ends_from, Packs}
+use Rattle.rj_columns.specs.Internal.Packed.{start_at, texts_from, ends_from, Packs}
 use Rattle.rj_columns.proofs.RemoveFacts.{All-removed}
 
 -- a part between two others

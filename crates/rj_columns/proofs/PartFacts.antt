@@ -3,7 +3,7 @@ use Rattle.std.proofs.Common.{◌≡◌, ◌≤◌, ◌<◌, ◌+◌, ◌-◌, �
 use Rattle.std.specs.Prelude.{slice_range}
 use Rattle.rj_columns.specs.Contents.{Content, nothing}
 use Rattle.rj_columns.specs.Tables.{TableValue, cell_in, cell_of, column_in, part_of}
-use Rattle.rj_columns.specs.Segments.{IsPartOf}
+use Rattle.rj_columns.specs.Internal.Segments.{IsPartOf}
 use Rattle.rj_columns.proofs.CellFacts.{as-part}
 use Rattle.rj_columns.proofs.HashFacts.{column-cell}
 use Rattle.rj_columns.proofs.SegmentFacts.{part-cell}

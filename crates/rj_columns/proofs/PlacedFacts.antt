@@ -4,9 +4,9 @@ use Rattle.std.proofs.lemmas.List.{length-append, length-map, map-append, take-a
 use Rattle.std.proofs.Math.ListN.{get_or-append}
 use Rattle.rj_columns.specs.declared.segments.Placed.{Placed}
 use Rattle.rj_columns.specs.Tables.{rows_of_all}
-use Rattle.rj_columns.specs.Segments.{IsFound}
+use Rattle.rj_columns.specs.Internal.Segments.{IsFound}
 use Rattle.rj_columns.proofs.SegmentFacts.{count-more}
-use Rattle.rj_columns.specs.Placed.{segments_in, rows_before, AreHints, ArePlaced}
+use Rattle.rj_columns.specs.Internal.Placed.{segments_in, rows_before, AreHints, ArePlaced}
 
 length-segments : (placed : List Placed) → length (segments_in placed) ≡ length placed
 length-segments placed = length-map placed (λ (p : Placed). p.segment)

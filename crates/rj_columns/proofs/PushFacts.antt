@@ -7,7 +7,7 @@ use Rattle.std.proofs.Math.ListN.{get_or-append}
 use Rattle.std.proofs.Math.Seq.{take-append_seam}
 use Rattle.std.proofs.lemmas.List.Elements.{All-head, All-tail, All-cons, All-push}
 use Rattle.rj_columns.specs.Contents.{Content, nothing, FitsType}
-use Rattle.rj_columns.specs.Columns.{ColumnValue, row_at, rows_of, Filling, IsTyped, cut, changed, without_last, without, grown_by}
+use Rattle.rj_columns.specs.Internal.Columns.{ColumnValue, row_at, rows_of, Filling, IsTyped, cut, changed, without_last, without, grown_by}
 use Rattle.rj_columns.specs.Tables.{FitsTypes}
 use Rattle.rj_columns.proofs.RowFacts.{grown}
 

@@ -8,7 +8,7 @@ use Rattle.std.proofs.lemmas.List.Folds.{length-flat_map-take}
 use Rattle.std.proofs.Math.ListN.{get_or-append}
 use Rattle.rj_columns.specs.Contents.{Content, nothing}
 use Rattle.rj_columns.specs.Tables.{TableValue, FitsTypes, rows_of_all, cell_of, with_row}
-use Rattle.rj_columns.specs.Segments.{table_in, AreSegments, IsFound, IsPartOf}
+use Rattle.rj_columns.specs.Internal.Segments.{table_in, AreSegments, IsFound, IsPartOf}
 
 pub rows-append : (a b : List TableValue) → rows_of_all (a ++ b) ≡ rows_of_all a ++ rows_of_all b
 rows-append a b = flat_map-append (λ (t : TableValue). t.rows) a b

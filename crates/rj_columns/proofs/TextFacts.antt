@@ -4,8 +4,8 @@ use Rattle.std.specs.Prelude.{IsUtf8, true, false, slice_get, slice_index_or, sl
 use Rattle.std.specs.List.{remove, remove_range}
 use Rattle.std.proofs.lemmas.List.{length-append, length-take, take_all, append-nil}
 use Rattle.std.proofs.lemmas.Str.{IsUtf8-nil}
-use Rattle.rj_columns.specs.Nulls.{with_nulls, marked_at}
-use Rattle.rj_columns.specs.Packed.{start_at, texts_from, Packs, ArePacked}
+use Rattle.rj_columns.specs.Internal.Nulls.{with_nulls, marked_at}
+use Rattle.rj_columns.specs.Internal.Packed.{start_at, texts_from, Packs, ArePacked}
 use Rattle.rj_columns.proofs.NullFacts.{push-value, push-null, length-marked, length-values, take-values, remove-values, value-at}
 use Rattle.rj_columns.proofs.PackFacts.{texts-found, packed, length-texts, length-ends, push-packed, take-packed, remove-packed, text-at}
 use Rattle.rj_columns.proofs.RemoveFacts.{remove-none, remove-within}

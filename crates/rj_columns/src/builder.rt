@@ -35,7 +35,7 @@ impl Model for TableBuilder {
 
     ghost Value = { BuilderValue };
 
-    ghost use Rattle.rj_columns.specs.Segments.{table_in, AreSegments};
+    ghost use Rattle.rj_columns.specs.Internal.Segments.{table_in, AreSegments};
 
     ghost view = { λ a. record { table = table_in a.names a.closed a.current.table; row = a.current.row } };
 

@@ -1,7 +1,7 @@
 //! One table from the rows of several, and several from the rows of one.
 
 ghost use Rattle.std.specs.Prelude.{◌≡◌, ◌≢◌, ◌<◌, ◌+◌, ◌^◌, ◌++◌, [], length, map, All, IfOk};
-ghost use Rattle.rj_columns.specs.Segments.{AreSegments, table_in};
+ghost use Rattle.rj_columns.specs.Internal.Segments.{AreSegments, table_in};
 ghost use Rattle.rj_columns.specs.Tables.{AreAlike, concatenated, rows_of_all};
 
 use crate::names::Names;

@@ -1,7 +1,7 @@
 //! Where the texts of a column end in its buffer of bytes.
 
 ghost use Rattle.std.specs.Prelude.{◌≡◌, ◌<◌, ◌≤◌, ◌+◌, ◌-◌, ◌^◌, ◌++◌, ◌∷◌, [], All, map, length, take, drop, slice_index, IfOk, OnOk, OnErr};
-ghost use Rattle.rj_columns.specs.Packed.{ends_in, start_at};
+ghost use Rattle.rj_columns.specs.Internal.Packed.{ends_in, start_at};
 
 use std::alloc::{AllocError, Global};
 use std::marker::Model;
@@ -24,7 +24,7 @@ impl Model for Ends {
 
     ghost Value = { List ℕ };
 
-    ghost use Rattle.rj_columns.specs.Packed.{ends_in};
+    ghost use Rattle.rj_columns.specs.Internal.Packed.{ends_in};
 
     ghost view = { λ a. ends_in a.places };
 }

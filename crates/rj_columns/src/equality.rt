@@ -4,7 +4,7 @@ ghost use Rattle.std.specs.Prelude.{◌≡◌, ◌<◌, ◌≤◌, length, map, 
 ghost use Rattle.std.specs.Option.{option_copied};
 ghost use Rattle.rj_columns.specs.Compare.{are_equal};
 ghost use Rattle.rj_columns.specs.Contents.{nothing};
-ghost use Rattle.rj_columns.specs.Stores.{decimal_content, number_content, text_content};
+ghost use Rattle.rj_columns.specs.Internal.Stores.{decimal_content, number_content, text_content};
 
 use crate::decimal::{Decimal, compare};
 use crate::ints::Ints;

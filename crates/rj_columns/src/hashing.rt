@@ -3,9 +3,9 @@
 ghost use Rattle.std.specs.Prelude.{◌≡◌, ◌<◌, ◌≤◌, ◌-◌, ℕ, All, Option, Some, length, map, slice_index_or};
 ghost use Rattle.rj_columns.specs.Contents.{Content, IsInLimits, content_of, nothing};
 ghost use Rattle.rj_columns.specs.Hashed.{AreRowsOf, HaveTaken};
-ghost use Rattle.rj_columns.specs.Stores.{decimal_content, number_content, text_content};
+ghost use Rattle.rj_columns.specs.Internal.Stores.{decimal_content, number_content, text_content};
 ghost use Rattle.rj_columns.specs.Tables.{cell_of};
-ghost use Rattle.rj_columns.specs.Widths.{numbers_lent};
+ghost use Rattle.rj_columns.specs.Internal.Widths.{numbers_lent};
 
 use crate::cell::Cell;
 use crate::column::{decimal_cell, int_cell, text_cell};

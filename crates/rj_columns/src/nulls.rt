@@ -1,7 +1,7 @@
 //! Marks of NULLs, which reach no further than the last NULL.
 
 ghost use Rattle.std.specs.Prelude.{◌≡◌, ◌≤◌, ◌+◌, length, false, slice_index_or, OnOk, OnErr};
-ghost use Rattle.rj_columns.specs.Nulls.{marked_at};
+ghost use Rattle.rj_columns.specs.Internal.Nulls.{marked_at};
 
 use std::alloc::AllocError;
 

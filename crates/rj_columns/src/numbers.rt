@@ -2,7 +2,7 @@
 
 ghost use Rattle.std.specs.Prelude.{◌≡◌, ◌<◌, ◌++◌, ◌∷◌, [], Some, length, slice_get, take, IfOk, OnOk, OnErr};
 ghost use Rattle.std.specs.List.{remove};
-ghost use Rattle.rj_columns.specs.Widths.{numbers_lent};
+ghost use Rattle.rj_columns.specs.Internal.Widths.{numbers_lent};
 
 use crate::removing::remove_at;
 use std::alloc::{AllocError, Global};
@@ -26,7 +26,7 @@ impl Model for Numbers {
 
     ghost Value = { List ℤ };
 
-    ghost use Rattle.rj_columns.specs.Widths.{numbers_in};
+    ghost use Rattle.rj_columns.specs.Internal.Widths.{numbers_in};
 
     ghost view = { λ a. numbers_in a.values };
 }

@@ -1,7 +1,7 @@
 //! Segments of tables.
 
 ghost use Rattle.std.specs.Prelude.{◌≡◌, ◌<◌, ◌^◌, Some, length, slice_get, All};
-ghost use Rattle.rj_columns.specs.Columns.{AreColumns, IsColumnOf, segment_of};
+ghost use Rattle.rj_columns.specs.Internal.Columns.{AreColumns, IsColumnOf, segment_of};
 ghost use Rattle.rj_columns.specs.Contents.{content_of, IsInLimits};
 ghost use Rattle.rj_columns.specs.Tables.{FitsAt, FitsTypes, cell_of};
 
@@ -32,7 +32,7 @@ impl Model for Segment {
 
     ghost Value = { TableValue };
 
-    ghost use Rattle.rj_columns.specs.Columns.{segment_of, AreColumns};
+    ghost use Rattle.rj_columns.specs.Internal.Columns.{segment_of, AreColumns};
 
     ghost view = { λ a. segment_of a.columns.items a.rows };
 

@@ -2,7 +2,7 @@
 
 ghost use Rattle.std.specs.Prelude.{◌≡◌, ◌<◌, ◌≤◌, ◌+◌, ◌-◌, ◌^◌, ◌++◌, ◌∷◌, [], true, map, length, All, OnOk, OnErr, IfOk};
 ghost use Rattle.rj_columns.specs.Contents.{content_of};
-ghost use Rattle.rj_columns.specs.Columns.{AreFull, cut, changed, without_last, without, grown_by};
+ghost use Rattle.rj_columns.specs.Internal.Columns.{AreFull, cut, changed, without_last, without, grown_by};
 ghost use Rattle.rj_columns.specs.Tables.{FitsAt, FitsTypes, with_row};
 
 use crate::cell::{Cell, ColumnType};
@@ -26,7 +26,7 @@ impl Model for SegmentBuilder {
 
     ghost Value = { BuilderValue };
 
-    ghost use Rattle.rj_columns.specs.Columns.{segment_of, row_at, AreColumns};
+    ghost use Rattle.rj_columns.specs.Internal.Columns.{segment_of, row_at, AreColumns};
 
     ghost view = { λ a. record { table = segment_of a.columns.items a.rows; row = row_at (take a.filled a.columns.items) a.rows } };
 

@@ -1,7 +1,7 @@
 //! The segments of a table one after another, and how to find the segment of a row.
 
 ghost use Rattle.std.specs.Prelude.{◌≡◌, ◌<◌, ◌+◌, ◌^◌, ◌++◌, ◌∷◌, [], length, map, IfErr, OnOk, OnErr};
-ghost use Rattle.rj_columns.specs.Segments.{IsFound};
+ghost use Rattle.rj_columns.specs.Internal.Segments.{IsFound};
 ghost use Rattle.rj_columns.specs.Tables.{rows_of_all};
 
 use crate::segment::Segment;
@@ -44,7 +44,7 @@ impl Model for Segments {
 
     ghost Value = { List TableValue };
 
-    ghost use Rattle.rj_columns.specs.Placed.{segments_in, ArePlaced};
+    ghost use Rattle.rj_columns.specs.Internal.Placed.{segments_in, ArePlaced};
 
     ghost view = { λ a. segments_in a.placed.items };
 

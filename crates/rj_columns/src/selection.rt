@@ -2,7 +2,7 @@
 
 ghost use Rattle.std.specs.Prelude.{◌≡◌, ◌<◌, All, IfOk, [], length, map, slice_index_or};
 ghost use Rattle.rj_columns.specs.Contents.{content_of, nothing, IsInLimits};
-ghost use Rattle.rj_columns.specs.Columns.{IsTyped};
+ghost use Rattle.rj_columns.specs.Internal.Columns.{IsTyped};
 ghost use Rattle.rj_columns.specs.Compare.{are_equal};
 ghost use Rattle.rj_columns.specs.Tables.{cell_of};
 
@@ -29,7 +29,7 @@ impl Model for Selection {
     ghost view = { λ a. map (λ c. c.cells) a.columns.items };
 
     ghost use Rattle.std.specs.Prelude.{All};
-    ghost use Rattle.rj_columns.specs.Columns.{IsTyped};
+    ghost use Rattle.rj_columns.specs.Internal.Columns.{IsTyped};
 
     ghost invariant = { λ a. All IsTyped a.columns.items };
 }

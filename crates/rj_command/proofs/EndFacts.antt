@@ -21,7 +21,7 @@ use Rattle.rj_engine.specs.Ends.{right_row}
 use Rattle.rj_engine.specs.Join.{JoinedValue}
 use Rattle.rj_engine.specs.Shown.{IsRunWithin, counted_from, rows_between, run_rows, run_view}
 use Rattle.rj_command.specs.declared.join.ends.Ends.{Ends}
-use Rattle.rj_command.specs.Ends.{AreEndsOf}
+use Rattle.rj_command.specs.Internal.Ends.{AreEndsOf}
 
 -- the right rows stay where left rows are counted from another one on
 right-rows-counted : (none first : ℕ) (rows : List JoinedRow) → map (right_row none) rows ≡ map (right_row none) (map (counted_from first) rows)

@@ -26,7 +26,7 @@ use Rattle.rj_line.specs.declared.request.Strictness.TheVariants as strictness
 use Rattle.rj_command.specs.Expected.{IsExpected, IsUnexpected}
 use Rattle.rj_command.specs.Operands.{IsNameFault}
 use Rattle.rj_command.specs.Refused.{naming_fault}
-use Rattle.rj_command.specs.Prepared.{IsOutcome, IsPrepared}
+use Rattle.rj_command.specs.Internal.Prepared.{IsOutcome, IsPrepared}
 use Rattle.rj_command.specs.Runs.{AreNames, IsNullFault, IsReady, IsUnprepared, IsUnwritten, hash_value}
 use Rattle.rj_command.specs.declared.join.operands.Operands.{Operands}
 use Rattle.rj_command.specs.declared.join.running.Prepared.{Prepared}

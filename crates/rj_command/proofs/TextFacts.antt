@@ -26,7 +26,7 @@ use Rattle.rj_engine.specs.Shown.{Follow, IsRunOf}
 use Rattle.rj_engine.proofs.RunFacts.{run-cells, run-within}
 use Rattle.rj_command.specs.declared.join.texts.Share.{Share}
 use Rattle.rj_command.specs.declared.join.texts.Written.{Written}
-use Rattle.rj_command.specs.Texts.{HasEnds, AreCounted, AreRunTexts, AreShownOf, AreTextsOf, AreWithin, cells_text, is_of, no_table, run_text, shown_cells, text_in, whole_text}
+use Rattle.rj_command.specs.Internal.Texts.{HasEnds, AreCounted, AreRunTexts, AreShownOf, AreTextsOf, AreWithin, cells_text, is_of, no_table, run_text, shown_cells, text_in, whole_text}
 
 abbrev Texts : Type 0
 Texts = Vec (Vec ℕ Global) Global

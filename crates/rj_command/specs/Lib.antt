@@ -8,9 +8,6 @@ pub mod Refused
 pub mod Undeclared
 pub mod Alike
 pub mod Runs
-pub mod Ends
-pub mod Texts
-pub mod Prepared
 pub mod Sides
 pub mod Sizes
 pub mod Statistics
@@ -22,3 +19,4 @@ pub mod Reported
 pub mod ShownTexts
 pub mod Violations
 pub mod Auto
+pub mod Internal

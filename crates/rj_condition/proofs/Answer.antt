@@ -7,7 +7,7 @@ use Rattle.rj_condition.specs.declared.refused.ParseRefused.TheVariants as refus
 use Rattle.rj_condition.specs.Lexing.{Lexes}
 use Rattle.rj_condition.specs.Nesting.{is_deep}
 use Rattle.rj_condition.specs.Grammar.{Derives}
-use Rattle.rj_condition.specs.Reading.{clause_at}
+use Rattle.rj_condition.specs.Internal.Reading.{clause_at}
 use Rattle.rj_condition.specs.Clauses.{IsStopByte, IsTooLong, IsTooDeep, HasClause, HasNoClause, Parses, IsAnswer, Refuses, IsSyntax}
 use Rattle.rj_condition.proofs.Lexemes.{one_reading}
 use Rattle.rj_condition.specs.Refusals.{BeginAt}

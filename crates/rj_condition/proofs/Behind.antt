@@ -12,9 +12,9 @@ use Rattle.rj_condition.specs.declared.token.Token.TheVariants as token
 use Rattle.rj_condition.specs.declared.tree.Comparison.{Comparison}
 use Rattle.rj_condition.specs.declared.tree.Comparison.TheVariants as comparison
 use Rattle.rj_condition.specs.Tokens.{spelling_of, sign_text}
-use Rattle.rj_condition.specs.Scanning.{all_keywords}
+use Rattle.rj_condition.specs.Internal.Scanning.{all_keywords}
 use Rattle.rj_condition.specs.Grammar.{sign_of}
-use Rattle.rj_condition.specs.Reading.{same_keyword, same_sign, after, behind, comparison_of, operator_at}
+use Rattle.rj_condition.specs.Internal.Reading.{same_keyword, same_sign, after, behind, comparison_of, operator_at}
 use Rattle.rj_condition.proofs.Words.{spelled_once}
 use Rattle.rj_condition.proofs.TokenLaws.{chosen}
 

@@ -12,7 +12,7 @@ use Rattle.rj_condition.specs.declared.tree.Comparison.{Comparison}
 use Rattle.rj_condition.specs.declared.tree.Condition.{Condition}
 use Rattle.rj_condition.specs.declared.tree.Condition.TheVariants as tree
 use Rattle.rj_condition.specs.Grammar.{optional, sign_of, keyword_of_truth, any_of, all_of, IsOperand, plain_name, qualified_name, integer, decimal, text, IsOperands, last_operand, more_operands, IsNames, last_name, more_names, IsPredicate, compare, is_null, between, among, IsFactor, not, test, IsTest, plain, is_truth, IsPrimary, predicate, group, IsFactors, last_factor, and_factors, IsTerms, last_term, or_terms}
-use Rattle.rj_condition.specs.Reading.{Read, ◌>>=◌, expect, go_on, separated, after, behind, name_at, column_of, column_at, operand_at, operands_at, names_at, operator_at, null_at, bounds_at, members_at, range_at, by_operator, test_of, predicate_at, negated, factor_of, factor_at, factors_at, term_at, terms_at, cond_at, term_with, cond_with, group_with, truth_at, truth_test_at, suffix_of, suffix, primary_of, primary_with, test_with, primary_at, test_at}
+use Rattle.rj_condition.specs.Internal.Reading.{Read, ◌>>=◌, expect, go_on, separated, after, behind, name_at, column_of, column_at, operand_at, operands_at, names_at, operator_at, null_at, bounds_at, members_at, range_at, by_operator, test_of, predicate_at, negated, factor_of, factor_at, factors_at, term_at, terms_at, cond_at, term_with, cond_with, group_with, truth_at, truth_test_at, suffix_of, suffix, primary_of, primary_with, test_with, primary_at, test_at}
 use Rattle.rj_condition.proofs.Turns.{turn_of}
 use Rattle.rj_condition.proofs.Behind.{operator_here, operator_no_point}
 

@@ -9,9 +9,9 @@ use Rattle.std.proofs.lemmas.Bool.{and_parts, ltb-true, lt-ltb}
 use mir.Val.{SFits}
 use Rattle.rj_condition.specs.declared.decimal.DecimalLiteral.{DecimalLiteral}
 use Rattle.rj_condition.specs.Sizes.{is_short}
-use Rattle.rj_condition.specs.Decimals.{checked, decimal_of}
+use Rattle.rj_condition.specs.Internal.Decimals.{checked, decimal_of}
 use Rattle.rj_condition.specs.Tokens.{begins, is_name_byte, IsDecimal}
-use Rattle.rj_condition.specs.Scanning.{fits_word, is_integer, decimal_parts, with_rest, judged_decimal, fraction_at}
+use Rattle.rj_condition.specs.Internal.Scanning.{fits_word, is_integer, decimal_parts, with_rest, judged_decimal, fraction_at}
 use Rattle.rj_condition.proofs.Quotes.{some_same}
 use Rattle.rj_condition.proofs.Integers.{integer-Decides, fits-Decides}
 

@@ -1,7 +1,7 @@
 -- How many turns a reader may take makes no difference, where they are enough.
 use Rattle.std.proofs.Common.{◌≡◌, ◌∙◌, ◌+◌, ◌≤◌, ◌++◌, ◌∷◌, [], ℕ, zero, suc, List, length, length-append, Option, Some, None, Ok, Err, refl, sym, ap, subst, arith, le_refl}
 use Rattle.rj_condition.specs.declared.token.Token.{Token}
-use Rattle.rj_condition.specs.Reading.{Read, ◌>>=◌, go_on, separated}
+use Rattle.rj_condition.specs.Internal.Reading.{Read, ◌>>=◌, go_on, separated}
 use Rattle.rj_condition.proofs.Stopping.{Follows, IsReader, IsStep, Stops, Takes, first_same}
 
 -- a reader leaves no more tokens than there are

@@ -15,7 +15,7 @@ use mir.Val.{SFits}
 use Rattle.std.proofs.Math.Facts.{to_z-of_z}
 use mir.Val.{to_z, of_z}
 use Rattle.rj_condition.specs.Tokens.{begins, is_name_byte}
-use Rattle.rj_condition.specs.Scanning.{fits_word, is_integer, judged, number_len, is_sign_of_number}
+use Rattle.rj_condition.specs.Internal.Scanning.{fits_word, is_integer, judged, number_len, is_sign_of_number}
 use Rattle.rj_condition.proofs.Runs.{run_ascii, cut_behind}
 
 pub fits-Decides : (z : ℤ) → Decides (fits_word z) (SFits w64 z)

@@ -18,7 +18,7 @@ use Rattle.rj_condition.specs.Tokens.{is_blank, is_name_byte, begins, begins_fra
 use Rattle.rj_condition.specs.Lexing.{Lexes, nothing, blank, next, unreadable}
 use Rattle.rj_condition.specs.Refusals.{BeginAt}
 use Rattle.rj_condition.specs.Refusals as refusals
-use Rattle.rj_condition.specs.Scanning.{quoted, text_at, delimited_at, word_at, named, number_len, is_sign_of_number, is_integer, judged, as_integer, decimal_parts, with_rest, judged_decimal, fraction_at, as_decimal, number_behind, number_at, less_at, greater_at, not_equal_at, mark_of, sign_at, as_sign, begins_number, token_at}
+use Rattle.rj_condition.specs.Internal.Scanning.{quoted, text_at, delimited_at, word_at, named, number_len, is_sign_of_number, is_integer, judged, as_integer, decimal_parts, with_rest, judged_decimal, fraction_at, as_decimal, number_behind, number_at, less_at, greater_at, not_equal_at, mark_of, sign_at, as_sign, begins_number, token_at}
 use Rattle.rj_condition.proofs.Runs.{run_is}
 use Rattle.rj_condition.proofs.Words.{keyword_word, name_word, take_seam}
 use Rattle.rj_condition.proofs.Quotes.{some_same, quoted_complete}

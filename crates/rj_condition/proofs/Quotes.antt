@@ -9,7 +9,7 @@ use Rattle.std.proofs.lemmas.List.{take-append-drop}
 use Rattle.std.proofs.lemmas.Str.{IsCharBoundary-before_ascii, IsCharBoundary-end}
 use Rattle.std.proofs.lemmas.Bool.{and_parts, cases_Bool}
 use Rattle.rj_condition.specs.Tokens.{begins, doubled}
-use Rattle.rj_condition.specs.Scanning.{is_other, in_front, quoted, after_quote}
+use Rattle.rj_condition.specs.Internal.Scanning.{is_other, in_front, quoted, after_quote}
 use Rattle.rj_condition.proofs.Runs.{run_passes, run_ends}
 
 pub some_same : {A : Type 0} (x y : A) → Some x ≡ Some y → x ≡ y

@@ -13,7 +13,7 @@ use Rattle.rj_condition.specs.declared.tree.Comparison.{Comparison}
 use Rattle.rj_condition.specs.declared.tree.Condition.{Condition}
 use Rattle.rj_condition.specs.declared.tree.Condition.TheVariants as tree
 use Rattle.rj_condition.specs.Grammar.{optional, any_of, all_of, keyword_of_truth, plain_column, qualified_column, sign_of, IsOperand, plain_name, qualified_name, integer, decimal, text, IsOperands, last_operand, more_operands, IsNames, last_name, more_names, IsPredicate, compare, is_null, between, among, IsFactor, not, test, IsTest, plain, is_truth, IsPrimary, predicate, group, IsFactors, last_factor, and_factors, IsTerms, last_term, or_terms}
-use Rattle.rj_condition.specs.Reading.{Read, ◌>>=◌, closed, expect, after, behind, optionally, separated, name_at, column_of, column_at, operand_at, operands_at, names_at, operator_at, null_at, bounds_at, members_at, by_in, by_between, range_at, by_is, by_operator, test_of, predicate_at, negated, factors_with, terms_with, factor_of, factor_at, factors_at, term_at, terms_at, cond_at, term_with, cond_with, group_with, truth_at, truth_test_at, suffix_of, suffix, primary_of, primary_with, test_with}
+use Rattle.rj_condition.specs.Internal.Reading.{Read, ◌>>=◌, closed, expect, after, behind, optionally, separated, name_at, column_of, column_at, operand_at, operands_at, names_at, operator_at, null_at, bounds_at, members_at, by_in, by_between, range_at, by_is, by_operator, test_of, predicate_at, negated, factors_with, terms_with, factor_of, factor_at, factors_at, term_at, terms_at, cond_at, term_with, cond_with, group_with, truth_at, truth_test_at, suffix_of, suffix, primary_of, primary_with, test_with}
 use Rattle.rj_condition.proofs.Stopping.{Begins, IsReader, IsStep, behind_token, bound, branched, by_next, failing, giving, next_keyword, next_operator, next_sign, separated_reader, then_next, weaker}
 use Rattle.rj_condition.proofs.Fuel.{enough, fueled, separated_nothing}
 use Rattle.rj_condition.proofs.Behind.{after_next, behind_next}

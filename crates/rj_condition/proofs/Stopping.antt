@@ -7,7 +7,7 @@ use Rattle.rj_condition.specs.declared.token.Token.{Token}
 use Rattle.rj_condition.specs.declared.token.Token.TheVariants as token
 use Rattle.rj_condition.specs.declared.tree.Comparison.{Comparison}
 use Rattle.rj_condition.specs.Grammar.{sign_of}
-use Rattle.rj_condition.specs.Reading.{Read, ◌>>=◌, after, behind, expect, operator_at, go_on, separated}
+use Rattle.rj_condition.specs.Internal.Reading.{Read, ◌>>=◌, after, behind, expect, operator_at, go_on, separated}
 use Rattle.rj_condition.proofs.Behind.{after_here, after_next, behind_here, behind_next, operator_here, operator_next}
 
 -- the same token comes next, or none does

@@ -12,7 +12,7 @@ use Rattle.rj_condition.specs.declared.token.Sign.TheVariants as sign
 use Rattle.rj_condition.specs.declared.token.Token.{Token}
 use Rattle.rj_condition.specs.declared.token.Token.TheVariants as token
 use Rattle.rj_condition.specs.Tokens.{is_name_byte, begins, begins_fraction, doubled, in_quotes, sign_text, EndsSign, IsToken}
-use Rattle.rj_condition.specs.Scanning.{quoted, text_at, delimited_at, number_len, is_integer, judged, as_integer, decimal_parts, with_rest, fraction_at, as_decimal, number_at, less_at, greater_at, not_equal_at, mark_of, as_mark, sign_at, as_sign, begins_number, token_at}
+use Rattle.rj_condition.specs.Internal.Scanning.{quoted, text_at, delimited_at, number_len, is_integer, judged, as_integer, decimal_parts, with_rest, fraction_at, as_decimal, number_at, less_at, greater_at, not_equal_at, mark_of, as_mark, sign_at, as_sign, begins_number, token_at}
 use Rattle.rj_condition.proofs.Runs.{len_in}
 use Rattle.rj_condition.proofs.Words.{word_token}
 use Rattle.rj_condition.proofs.Quotes.{some_same, quoted_sound}

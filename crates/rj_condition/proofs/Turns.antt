@@ -4,7 +4,7 @@ use Rattle.rj_condition.specs.declared.token.Keyword.TheVariants as keyword
 use Rattle.rj_condition.specs.declared.token.Token.{Token}
 use Rattle.rj_condition.specs.declared.tree.Condition.{Condition}
 use Rattle.rj_condition.specs.declared.tree.Condition.TheVariants as tree
-use Rattle.rj_condition.specs.Reading.{Read, separated, go_on, ◌>>=◌, after, factor_of, factor_at, test_at, negated}
+use Rattle.rj_condition.specs.Internal.Reading.{Read, separated, go_on, ◌>>=◌, after, factor_of, factor_at, test_at, negated}
 
 module _ {A : Type 0} (item : List Token → Read A) (next : List Token → Option (List Token)) where
   pub turn_of : (n : ℕ) (found : List A) (ts : List Token) (x : A) (us : List Token) → item ts ≡ Ok (x, us) →

@@ -12,7 +12,7 @@ use Rattle.rj_condition.specs.declared.tree.Clause.{Clause}
 use Rattle.rj_condition.specs.declared.tree.Clause.TheVariants as clause
 use Rattle.rj_condition.specs.Clauses.{BeginsClause, IsStop}
 use Rattle.rj_condition.specs.Grammar.{optional, any_of, IsTerms, IsNames, IsJoin, inner, left, right, full, Derives, cross, natural, on, using}
-use Rattle.rj_condition.specs.Reading.{Read, ◌>>=◌, expect, after, behind, opt, optionally, names_at, cond_at, by_inner, by_left, by_right, by_full, kind_at, joined, join_at, ended, cross_at, natural_at, on_at, using_at, by_on, qualified_at, by_natural, by_cross, clause_at}
+use Rattle.rj_condition.specs.Internal.Reading.{Read, ◌>>=◌, expect, after, behind, opt, optionally, names_at, cond_at, by_inner, by_left, by_right, by_full, kind_at, joined, join_at, ended, cross_at, natural_at, on_at, using_at, by_on, qualified_at, by_natural, by_cross, clause_at}
 use Rattle.rj_condition.proofs.Complete.{cond_complete, names_complete, close_no_comma}
 use Rattle.rj_condition.proofs.Readers.{IsCondition, cond_reader, names_reader}
 use Rattle.rj_condition.proofs.Stopping.{Follows, IsReader, IsStep, Stops, Takes, bound, by_next, giving, next_keyword, next_sign, then_next}

@@ -12,7 +12,7 @@ use Rattle.rj_condition.specs.declared.token.Keyword.{Keyword}
 use Rattle.rj_condition.specs.declared.token.Keyword.TheVariants as keyword
 use Rattle.rj_condition.specs.declared.token.Token.TheVariants as token
 use Rattle.rj_condition.specs.Tokens.{spelling_of, spells, is_name_byte, begins, IsIdentifier, IsSpelled, Ends, IsToken}
-use Rattle.rj_condition.specs.Scanning.{all_keywords, keyword_of, word_or_name, word_at, named}
+use Rattle.rj_condition.specs.Internal.Scanning.{all_keywords, keyword_of, word_or_name, word_at, named}
 use Rattle.rj_condition.proofs.Runs.{run_passes, run_ends, run_is, len_in}
 
 pub letter_is_name_byte : (b : ℕ) → is_ascii_alphabetic b ≡ true → is_name_byte b ≡ true

@@ -18,7 +18,7 @@ use Rattle.rj_condition.specs.declared.tree.Name.{Name}
 use Rattle.rj_condition.specs.declared.tree.Operand.{Operand}
 use Rattle.rj_condition.specs.Fits.{are_one_family, family_of}
 use Rattle.rj_condition.specs.Names.{place, resolved_operand}
-use Rattle.rj_condition.specs.Reading.{Read, predicate_at}
+use Rattle.rj_condition.specs.Internal.Reading.{Read, predicate_at}
 use Rattle.rj_condition.specs.Refusals.{BeginAt, is_point, is_using, name_of}
 
 -- two operands

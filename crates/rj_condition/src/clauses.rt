@@ -1,8 +1,8 @@
 //! Join clauses (SQL-92, 7.5).
 
 ghost use Rattle.std.specs.Prelude.{◌≡◌, [], ◌∷◌};
-ghost use Rattle.rj_condition.specs.Reading.{Gives, GivesWhole};
-ghost use Rattle.rj_condition.specs.Reading as reading;
+ghost use Rattle.rj_condition.specs.Internal.Reading.{Gives, GivesWhole};
+ghost use Rattle.rj_condition.specs.Internal.Reading as reading;
 
 use crate::conditions::condition;
 use crate::steps::{after, behind, names, optional, whole};
@@ -12,7 +12,7 @@ use crate::tree::{Clause, JoinKind};
 use std::alloc::Global;
 
 // The type of a join: no type means INNER.
-#[tactic(auto, unfolding(crate::specs::Reading::kind_at))]
+#[tactic(auto, unfolding(crate::specs::Internal::Reading::kind_at))]
 fn kind(tokens: &[Token]) -> (JoinKind, &[Token])
     ensures { (result.0, result.1.now) ≡ reading.kind_at tokens.now }
 {
@@ -31,7 +31,7 @@ fn kind(tokens: &[Token]) -> (JoinKind, &[Token])
     }
 }
 
-#[tactic(auto, unfolding(crate::specs::Reading::join_at))]
+#[tactic(auto, unfolding(crate::specs::Internal::Reading::join_at))]
 fn join(tokens: &[Token]) -> Result<(JoinKind, &[Token]), Stop>
     ensures { Gives result (reading.join_at tokens.now) }
 {
@@ -43,7 +43,7 @@ fn join(tokens: &[Token]) -> Result<(JoinKind, &[Token]), Stop>
 }
 
 // After CROSS.
-#[tactic(auto, unfolding(crate::specs::Reading::cross_at))]
+#[tactic(auto, unfolding(crate::specs::Internal::Reading::cross_at))]
 fn cross(tokens: &[Token]) -> Result<Clause, Stop>
     ensures { GivesWhole result (reading.cross_at tokens.now) }
 {
@@ -54,7 +54,7 @@ fn cross(tokens: &[Token]) -> Result<Clause, Stop>
 }
 
 // After NATURAL.
-#[tactic(auto, unfolding(crate::specs::Reading::natural_at))]
+#[tactic(auto, unfolding(crate::specs::Internal::Reading::natural_at))]
 fn natural(tokens: &[Token]) -> Result<Clause, Stop>
     ensures { GivesWhole result (reading.natural_at tokens.now) }
 {
@@ -65,7 +65,7 @@ fn natural(tokens: &[Token]) -> Result<Clause, Stop>
 }
 
 // After ON.
-#[tactic(auto, unfolding(crate::specs::Reading::on_at))]
+#[tactic(auto, unfolding(crate::specs::Internal::Reading::on_at))]
 fn on(alloc: Global, kind: JoinKind, tokens: &[Token]) -> Result<Clause, Stop>
     ensures { GivesWhole result (reading.on_at kind tokens.now) }
 {
@@ -76,7 +76,7 @@ fn on(alloc: Global, kind: JoinKind, tokens: &[Token]) -> Result<Clause, Stop>
 }
 
 // USING and its names.
-#[tactic(auto, unfolding(crate::specs::Reading::using_at))]
+#[tactic(auto, unfolding(crate::specs::Internal::Reading::using_at))]
 fn using(alloc: Global, kind: JoinKind, tokens: &[Token]) -> Result<Clause, Stop>
     ensures { GivesWhole result (reading.using_at kind tokens.now) }
 {
@@ -94,7 +94,7 @@ fn using(alloc: Global, kind: JoinKind, tokens: &[Token]) -> Result<Clause, Stop
 }
 
 // A join with ON or USING.
-#[tactic(auto, unfolding(crate::specs::Reading::qualified_at))]
+#[tactic(auto, unfolding(crate::specs::Internal::Reading::qualified_at))]
 fn qualified(alloc: Global, tokens: &[Token]) -> Result<Clause, Stop>
     ensures { GivesWhole result (reading.qualified_at tokens.now) }
 {
@@ -110,7 +110,7 @@ fn qualified(alloc: Global, tokens: &[Token]) -> Result<Clause, Stop>
 /// # Errors
 ///
 /// `Syntax` if they are no clause, `Memory` if memory ran out.
-#[tactic(auto, unfolding(crate::specs::Reading::clause_at))]
+#[tactic(auto, unfolding(crate::specs::Internal::Reading::clause_at))]
 pub fn clause(alloc: Global, tokens: &[Token]) -> Result<Clause, Stop>
     ensures { GivesWhole result (reading.clause_at tokens.now) }
 {

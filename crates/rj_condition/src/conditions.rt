@@ -2,8 +2,8 @@
 //! the number of tokens is enough.
 
 ghost use Rattle.std.specs.Prelude.{◌≡◌, [], ◌∷◌};
-ghost use Rattle.rj_condition.specs.Reading.{Gives, factor_at, factors_at, term_at, terms_at, cond_at, group_at, test_at, primary_at, any_of, all_of};
-ghost use Rattle.rj_condition.specs.Reading as reading;
+ghost use Rattle.rj_condition.specs.Internal.Reading.{Gives, factor_at, factors_at, term_at, terms_at, cond_at, group_at, test_at, primary_at, any_of, all_of};
+ghost use Rattle.rj_condition.specs.Internal.Reading as reading;
 
 use crate::predicates::predicate;
 use crate::steps::{after, behind, closed, optional};
@@ -48,7 +48,7 @@ fn truth_of(keyword: Keyword) -> Option<Truth>
 }
 
 // The truth value after IS and perhaps NOT.
-#[tactic(auto, unfolding(crate::specs::Reading::truth_at))]
+#[tactic(auto, unfolding(crate::specs::Internal::Reading::truth_at))]
 fn truth(tokens: &[Token]) -> Result<(Truth, &[Token]), Stop>
     ensures { Gives result (reading.truth_at tokens.now) }
 {
@@ -61,7 +61,7 @@ fn truth(tokens: &[Token]) -> Result<(Truth, &[Token]), Stop>
     }
 }
 
-#[tactic(auto, unfolding(crate::specs::Reading::truth_test_at))]
+#[tactic(auto, unfolding(crate::specs::Internal::Reading::truth_test_at))]
 fn truth_test(
     alloc: Global,
     condition: Condition,
@@ -85,7 +85,7 @@ fn truth_test(
 }
 
 // `[IS [NOT] truth]`, after a primary.
-#[tactic(auto, unfolding(crate::specs::Reading::suffix))]
+#[tactic(auto, unfolding(crate::specs::Internal::Reading::suffix))]
 fn suffix(
     alloc: Global,
     condition: Condition,
@@ -120,7 +120,7 @@ fn factor(alloc: Global, limit: usize, tokens: &[Token]) -> Result<(Condition, &
 }
 
 #[cycle(reading)]
-#[tactic(auto, unfolding(crate::specs::Reading::test_with))]
+#[tactic(auto, unfolding(crate::specs::Internal::Reading::test_with))]
 fn test(alloc: Global, limit: usize, tokens: &[Token]) -> Result<(Condition, &[Token]), Stop>
     ensures { Gives result (test_at limit tokens.now) }
 {
@@ -131,7 +131,7 @@ fn test(alloc: Global, limit: usize, tokens: &[Token]) -> Result<(Condition, &[T
 }
 
 #[cycle(reading)]
-#[tactic(auto, unfolding(crate::specs::Reading::primary_with))]
+#[tactic(auto, unfolding(crate::specs::Internal::Reading::primary_with))]
 fn primary(alloc: Global, limit: usize, tokens: &[Token]) -> Result<(Condition, &[Token]), Stop>
     ensures { Gives result (primary_at limit tokens.now) }
 {
@@ -143,7 +143,7 @@ fn primary(alloc: Global, limit: usize, tokens: &[Token]) -> Result<(Condition, 
 
 // A condition after an open parenthesis, and what closes it.
 #[cycle(reading)]
-#[tactic(auto, unfolding(crate::specs::Reading::group_with))]
+#[tactic(auto, unfolding(crate::specs::Internal::Reading::group_with))]
 fn group(alloc: Global, limit: usize, tokens: &[Token]) -> Result<(Condition, &[Token]), Stop>
     ensures { Gives result (group_at limit tokens.now) }
 {
@@ -154,7 +154,7 @@ fn group(alloc: Global, limit: usize, tokens: &[Token]) -> Result<(Condition, &[
 }
 
 #[cycle(reading)]
-#[tactic(auto, using(crate::proofs::Turns::turns), unfolding(crate::specs::Reading::separated))]
+#[tactic(auto, using(crate::proofs::Turns::turns), unfolding(crate::specs::Internal::Reading::separated))]
 fn factors(
     alloc: Global,
     limit: usize,
@@ -176,7 +176,7 @@ fn factors(
 }
 
 #[cycle(reading)]
-#[tactic(auto, unfolding(crate::specs::Reading::term_with))]
+#[tactic(auto, unfolding(crate::specs::Internal::Reading::term_with))]
 fn term(alloc: Global, limit: usize, tokens: &[Token]) -> Result<(Condition, &[Token]), Stop>
     ensures { Gives result (term_at limit tokens.now) }
 {
@@ -187,7 +187,7 @@ fn term(alloc: Global, limit: usize, tokens: &[Token]) -> Result<(Condition, &[T
 }
 
 #[cycle(reading)]
-#[tactic(auto, using(crate::proofs::Turns::turns), unfolding(crate::specs::Reading::separated))]
+#[tactic(auto, using(crate::proofs::Turns::turns), unfolding(crate::specs::Internal::Reading::separated))]
 fn terms(
     alloc: Global,
     limit: usize,
@@ -214,7 +214,7 @@ fn terms(
 ///
 /// `Syntax` if no condition within `limit` comes next, `Memory` if memory ran out.
 #[cycle(reading)]
-#[tactic(auto, unfolding(crate::specs::Reading::cond_with))]
+#[tactic(auto, unfolding(crate::specs::Internal::Reading::cond_with))]
 pub fn condition(
     alloc: Global,
     limit: usize,

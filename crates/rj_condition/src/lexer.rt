@@ -6,9 +6,9 @@ ghost use Rattle.std.specs.List.{prefix_len, find};
 ghost use Rattle.std.specs.Str.Parse.{without_leading_sign};
 ghost use Rattle.rj_condition.specs.Tokens.{is_blank, is_name_byte, begins, begins_fraction, spells};
 ghost use Rattle.rj_condition.specs.Lexing.{Lexes};
-ghost use Rattle.rj_condition.specs.Decimals as decimals;
+ghost use Rattle.rj_condition.specs.Internal.Decimals as decimals;
 ghost use Rattle.rj_condition.specs.Refusals.{BeginAt};
-ghost use Rattle.rj_condition.specs.Scanning as scanning;
+ghost use Rattle.rj_condition.specs.Internal.Scanning as scanning;
 
 use crate::decimal::DecimalLiteral;
 use crate::token::{Keyword, Sign, Token};
@@ -95,7 +95,7 @@ fn first_spelled(word: &str, keywords: &[Keyword]) -> Option<Keyword>
     None
 }
 
-#[tactic(auto, unfolding(crate::specs::Scanning::keyword_of))]
+#[tactic(auto, unfolding(crate::specs::Internal::Scanning::keyword_of))]
 fn keyword_of(word: &str) -> Option<Keyword>
     ensures { result ≡ scanning.keyword_of word.now }
 {
@@ -188,7 +188,7 @@ fn digits_len(text: &[u8]) -> usize
 }
 
 // How many bytes of a sign and of the digits after it the text begins with.
-#[tactic(auto, unfolding(crate::specs::Scanning::number_len))]
+#[tactic(auto, unfolding(crate::specs::Internal::Scanning::number_len))]
 fn number_len(text: &[u8]) -> usize
     ensures { result ≡ scanning.number_len text.now }
 {
@@ -264,7 +264,7 @@ fn decimal_of_parts(
 
 // The decimal with these digits before its point. The text begins with the digits after it, and
 // they don't run into a word.
-#[tactic(auto, unfolding(crate::specs::Scanning::fraction_at))]
+#[tactic(auto, unfolding(crate::specs::Internal::Scanning::fraction_at))]
 fn fraction<'a>(
     alloc: Global,
     before: &str,
@@ -283,7 +283,7 @@ fn fraction<'a>(
 }
 
 // The sign that comes after `<`.
-#[tactic(auto, unfolding(crate::specs::Scanning::less_at))]
+#[tactic(auto, unfolding(crate::specs::Internal::Scanning::less_at))]
 fn less(text: &str) -> (Sign, &str)
     ensures { scanning.less_at text.now ≡ (result.0, result.1.now) }
 {
@@ -295,7 +295,7 @@ fn less(text: &str) -> (Sign, &str)
 }
 
 // The sign that comes after `>`.
-#[tactic(auto, unfolding(crate::specs::Scanning::greater_at))]
+#[tactic(auto, unfolding(crate::specs::Internal::Scanning::greater_at))]
 fn greater(text: &str) -> (Sign, &str)
     ensures { scanning.greater_at text.now ≡ (result.0, result.1.now) }
 {
@@ -306,7 +306,7 @@ fn greater(text: &str) -> (Sign, &str)
 }
 
 // The sign that comes after `!`, which is none alone.
-#[tactic(auto, unfolding(crate::specs::Scanning::not_equal_at))]
+#[tactic(auto, unfolding(crate::specs::Internal::Scanning::not_equal_at))]
 fn not_equal(text: &str) -> Option<(Sign, &str)>
     ensures { scanning.view result ≡ scanning.not_equal_at text.now }
 {
@@ -317,7 +317,7 @@ fn not_equal(text: &str) -> Option<(Sign, &str)>
 }
 
 // The sign of one byte that begins no longer sign.
-#[tactic(auto, unfolding(crate::specs::Scanning::mark_of))]
+#[tactic(auto, unfolding(crate::specs::Internal::Scanning::mark_of))]
 fn mark_of(byte: u8) -> Option<Sign>
     ensures ascii { IsSome result → byte < 128 }
     ensures sign { result ≡ scanning.mark_of byte }
@@ -362,7 +362,7 @@ fn delimited_name(alloc: Global, text: &str) -> Result<Option<(Token, &str)>, Al
 }
 
 // The sign that the text begins with.
-#[tactic(auto, unfolding(crate::specs::Scanning::sign_at))]
+#[tactic(auto, unfolding(crate::specs::Internal::Scanning::sign_at))]
 fn sign(text: &str) -> Option<(Sign, &str)>
     ensures { scanning.view result ≡ scanning.sign_at text.now }
 {
@@ -405,7 +405,7 @@ fn decimal_token<'a>(
 }
 
 // The integer or the decimal that the text begins with.
-#[tactic(auto, unfolding(crate::specs::Scanning::number_at))]
+#[tactic(auto, unfolding(crate::specs::Internal::Scanning::number_at))]
 fn number(alloc: Global, text: &str) -> Result<Option<(Token, &str)>, AllocError>
     ensures { IfOk result (λ x. scanning.view x ≡ scanning.number_at text.now) }
 {
@@ -425,7 +425,7 @@ fn sign_token(text: &str) -> Option<(Token, &str)>
 }
 
 // The token that the text begins with.
-#[tactic(auto, unfolding(crate::specs::Scanning::token_at))]
+#[tactic(auto, unfolding(crate::specs::Internal::Scanning::token_at))]
 fn next_token(alloc: Global, text: &str) -> Result<Option<(Token, &str)>, AllocError>
     ensures { IfOk result (λ x. scanning.view x ≡ scanning.token_at text.now) }
 {

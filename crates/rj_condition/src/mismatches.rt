@@ -7,7 +7,7 @@ ghost use Rattle.std.specs.Option.{option_or};
 ghost use Rattle.rj_condition.specs.Mismatches as mismatches;
 ghost use Rattle.rj_condition.specs.Mismatches.{AreOneFamily, HasNoMismatch, IsFirstApart, IsMismatch, IsToldApart, first_of};
 ghost use Rattle.rj_condition.specs.Names.{resolved_operand};
-ghost use Rattle.rj_condition.specs.Reading.{predicate_at};
+ghost use Rattle.rj_condition.specs.Internal.Reading.{predicate_at};
 ghost use Rattle.rj_condition.specs.Refusals.{is_using};
 ghost use Rattle.rj_condition.specs.declared.bound.BoundOperand.TheVariants as bound;
 

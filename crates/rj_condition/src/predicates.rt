@@ -1,8 +1,8 @@
 //! Operands and predicates (SQL-92, 8.2, 8.3, 8.4, 8.6).
 
 ghost use Rattle.std.specs.Prelude.{◌≡◌, [], ◌∷◌};
-ghost use Rattle.rj_condition.specs.Reading.{Gives};
-ghost use Rattle.rj_condition.specs.Reading as reading;
+ghost use Rattle.rj_condition.specs.Internal.Reading.{Gives};
+ghost use Rattle.rj_condition.specs.Internal.Reading as reading;
 
 use crate::steps::{after, behind, name, optional};
 use crate::stop::Stop;
@@ -12,7 +12,7 @@ use crate::word::Word;
 use sqlite_items::Items;
 use std::alloc::Global;
 
-#[tactic(auto, unfolding(crate::specs::Reading::column_at))]
+#[tactic(auto, unfolding(crate::specs::Internal::Reading::column_at))]
 fn column(alloc: Global, tokens: &[Token]) -> Result<(Operand, &[Token]), Stop>
     ensures { Gives result (reading.column_at tokens.now) }
 {
@@ -38,7 +38,7 @@ fn column(alloc: Global, tokens: &[Token]) -> Result<(Operand, &[Token]), Stop>
     }
 }
 
-#[tactic(auto, unfolding(crate::specs::Reading::operand_at))]
+#[tactic(auto, unfolding(crate::specs::Internal::Reading::operand_at))]
 fn operand(alloc: Global, tokens: &[Token]) -> Result<(Operand, &[Token]), Stop>
     ensures { Gives result (reading.operand_at tokens.now) }
 {
@@ -60,7 +60,7 @@ fn operand(alloc: Global, tokens: &[Token]) -> Result<(Operand, &[Token]), Stop>
 }
 
 // Operands with commas between.
-#[tactic(auto, using(crate::proofs::Turns::turns), unfolding(crate::specs::Reading::operands_at, crate::specs::Reading::separated))]
+#[tactic(auto, using(crate::proofs::Turns::turns), unfolding(crate::specs::Internal::Reading::operands_at, crate::specs::Internal::Reading::separated))]
 fn operands(alloc: Global, tokens: &[Token]) -> Result<(Items<Operand>, &[Token]), Stop>
     ensures { Gives result (reading.operands_at tokens.now) }
 {
@@ -92,7 +92,7 @@ fn comparison(sign: Sign) -> Option<Comparison>
 }
 
 // The operator of a comparison, if it comes next.
-#[tactic(auto, unfolding(crate::specs::Reading::operator_at))]
+#[tactic(auto, unfolding(crate::specs::Internal::Reading::operator_at))]
 fn operator(tokens: &[Token]) -> Option<(Comparison, &[Token])>
     ensures { reading.view result ≡ reading.operator_at tokens.now }
 {
@@ -106,7 +106,7 @@ fn operator(tokens: &[Token]) -> Option<(Comparison, &[Token])>
 }
 
 // `[NOT] NULL`, after an operand and IS.
-#[tactic(auto, unfolding(crate::specs::Reading::null_at))]
+#[tactic(auto, unfolding(crate::specs::Internal::Reading::null_at))]
 fn null(operand: Operand, negated: bool, tokens: &[Token]) -> Result<(Condition, &[Token]), Stop>
     ensures { Gives result (reading.null_at operand (negated, tokens.now)) }
 {
@@ -117,7 +117,7 @@ fn null(operand: Operand, negated: bool, tokens: &[Token]) -> Result<(Condition,
 }
 
 // The bounds after BETWEEN.
-#[tactic(auto, unfolding(crate::specs::Reading::bounds_at))]
+#[tactic(auto, unfolding(crate::specs::Internal::Reading::bounds_at))]
 fn bounds(
     alloc: Global,
     operand_between: Operand,
@@ -143,7 +143,7 @@ fn bounds(
 }
 
 // The members after IN.
-#[tactic(auto, unfolding(crate::specs::Reading::members_at))]
+#[tactic(auto, unfolding(crate::specs::Internal::Reading::members_at))]
 fn members(
     alloc: Global,
     operand: Operand,
@@ -170,7 +170,7 @@ fn members(
 }
 
 // BETWEEN or IN, after an operand and perhaps NOT.
-#[tactic(auto, unfolding(crate::specs::Reading::range_at))]
+#[tactic(auto, unfolding(crate::specs::Internal::Reading::range_at))]
 fn range(
     alloc: Global,
     operand: Operand,
@@ -189,7 +189,7 @@ fn range(
 }
 
 // What a predicate says of its first operand.
-#[tactic(auto, unfolding(crate::specs::Reading::test_of))]
+#[tactic(auto, unfolding(crate::specs::Internal::Reading::test_of))]
 fn test_of(alloc: Global, first: Operand, tokens: &[Token]) -> Result<(Condition, &[Token]), Stop>
     ensures { Gives result (reading.test_of first tokens.now) }
 {
@@ -221,7 +221,7 @@ fn test_of(alloc: Global, first: Operand, tokens: &[Token]) -> Result<(Condition
 /// # Errors
 ///
 /// `Syntax` if no predicate comes next, `Memory` if memory ran out.
-#[tactic(auto, unfolding(crate::specs::Reading::predicate_at))]
+#[tactic(auto, unfolding(crate::specs::Internal::Reading::predicate_at))]
 pub fn predicate(alloc: Global, tokens: &[Token]) -> Result<(Condition, &[Token]), Stop>
     ensures { Gives result (reading.predicate_at tokens.now) }
 {

@@ -1,8 +1,8 @@
 //! Steps of the reader: the next token, if it is the wanted one.
 
 ghost use Rattle.std.specs.Prelude.{◌≡◌, [], ◌∷◌, IfOk, IsTrue, ◌↔◌, List};
-ghost use Rattle.rj_condition.specs.Reading.{Gives, GivesWhole, rest_view};
-ghost use Rattle.rj_condition.specs.Reading as reading;
+ghost use Rattle.rj_condition.specs.Internal.Reading.{Gives, GivesWhole, rest_view};
+ghost use Rattle.rj_condition.specs.Internal.Reading as reading;
 
 use crate::stop::Stop;
 use crate::token::{Keyword, Sign, Token};
@@ -24,7 +24,7 @@ fn same_sign(found: Sign, wanted: Sign) -> bool
 }
 
 // The tokens after the keyword, if it comes next.
-#[tactic(auto, unfolding(crate::specs::Reading::after))]
+#[tactic(auto, unfolding(crate::specs::Internal::Reading::after))]
 pub fn after(tokens: &[Token], keyword: Keyword) -> Option<&[Token]>
     ensures { rest_view result ≡ reading.after keyword tokens.now }
 {
@@ -41,7 +41,7 @@ pub fn after(tokens: &[Token], keyword: Keyword) -> Option<&[Token]>
 }
 
 // The tokens after the sign, if it comes next.
-#[tactic(auto, unfolding(crate::specs::Reading::behind))]
+#[tactic(auto, unfolding(crate::specs::Internal::Reading::behind))]
 pub fn behind(tokens: &[Token], sign: Sign) -> Option<&[Token]>
     ensures { rest_view result ≡ reading.behind sign tokens.now }
 {
@@ -109,7 +109,7 @@ fn copied(alloc: Global, name: &Name) -> Result<Name, AllocError>
 /// # Errors
 ///
 /// `Syntax` if no name comes next, `Memory` if memory ran out.
-#[tactic(auto, unfolding(crate::specs::Reading::name_at))]
+#[tactic(auto, unfolding(crate::specs::Internal::Reading::name_at))]
 pub fn name(alloc: Global, tokens: &[Token]) -> Result<(Name, &[Token]), Stop>
     ensures { Gives result (reading.name_at tokens.now) }
 {
@@ -124,7 +124,7 @@ pub fn name(alloc: Global, tokens: &[Token]) -> Result<(Name, &[Token]), Stop>
 /// # Errors
 ///
 /// `Syntax` if no name comes next, at first or after a comma, `Memory` if memory ran out.
-#[tactic(auto, using(crate::proofs::Turns::turns), unfolding(crate::specs::Reading::names_at, crate::specs::Reading::separated))]
+#[tactic(auto, using(crate::proofs::Turns::turns), unfolding(crate::specs::Internal::Reading::names_at, crate::specs::Internal::Reading::separated))]
 pub fn names(alloc: Global, tokens: &[Token]) -> Result<(Items<Name>, &[Token]), Stop>
     ensures { Gives result (reading.names_at tokens.now) }
 {

@@ -6,7 +6,7 @@ use Rattle.std.proofs.lemmas.List.{append-nil, at_drop_more, at_drop_all}
 use Rattle.std.proofs.Math.Seq.{take-append_seam}
 use Rattle.rj_csv_io.specs.Grammar.{Derives, Field, escaped, non-escaped, Line, fields_text, lines_text}
 use Rattle.rj_csv_io.specs.StrictFaults.{AreAbove, HasFault, row_at}
-use Rattle.rj_csv_io.specs.StrictSteps.{at_delimiter, at_cr, at_dquote, at_lf, at_textdata, end_empty, end_of, forbids_empty, initial_standing, step_of, verdict}
+use Rattle.rj_csv_io.specs.Internal.StrictSteps.{at_delimiter, at_cr, at_dquote, at_lf, at_textdata, end_empty, end_of, forbids_empty, initial_standing, step_of, verdict}
 use Rattle.rj_csv_io.specs.declared.strict.header.HeaderPlace.{HeaderPlace}
 use Rattle.rj_csv_io.specs.declared.strict.header.HeaderPlace.TheVariants.{First, Above}
 use Rattle.rj_csv_io.specs.declared.strict.fault.StrictFault.{StrictFault}

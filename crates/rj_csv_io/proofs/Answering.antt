@@ -3,7 +3,7 @@ use Rattle.std.specs.Prelude.{◌≡◌, Bool, List, ℕ, Result, Ok, Err, OnOk,
 use Rattle.std.proofs.Common.{ap, ◌∙◌}
 use Rattle.rj_csv_io.specs.Grammar.{File, Derives}
 use Rattle.rj_csv_io.specs.StrictFaults.{HasFault}
-use Rattle.rj_csv_io.specs.StrictSteps.{initial_standing, verdict}
+use Rattle.rj_csv_io.specs.Internal.StrictSteps.{initial_standing, verdict}
 use Rattle.rj_csv_io.specs.declared.strict.header.HeaderPlace.{HeaderPlace}
 use Rattle.rj_csv_io.specs.declared.strict.fault.StrictFault.{StrictFault}
 use Rattle.rj_csv_io.proofs.Lawful.{Lawful}

@@ -9,7 +9,7 @@ use Rattle.rj_columns.specs.declared.cell.Cell.{Cell}
 use Rattle.rj_csv_io.specs.declared.block.RowBlock.{RowBlock}
 use Rattle.rj_csv_io.specs.Shown.{shown}
 use Rattle.rj_columns.specs.Tables.{cell_in, part_of}
-use Rattle.rj_csv_io.specs.Blocks.{block_of, offset, Holds}
+use Rattle.rj_csv_io.specs.Internal.Blocks.{block_of, offset, Holds}
 
 pub length-part : (rows : List (List Content)) (col from n : ℕ) → length (part_of rows col from n) ≡ n
 unfolding part_of

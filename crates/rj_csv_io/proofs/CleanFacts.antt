@@ -4,7 +4,7 @@ use Rattle.std.proofs.Common.{refl, sym, ap, subst, ◌∙◌, arith}
 use Rattle.std.proofs.lemmas.Bool.{and_from, not_from_false, false≢true}
 use Rattle.std.proofs.lemmas.List.{take_all, take_more, take-append-drop, drop-drop, at_drop_more}
 use Rattle.rj_csv_io.specs.Grammar.{dquote, cr, lf}
-use Rattle.rj_csv_io.specs.StrictWalk.{walk, over_quote, place_after, may_not_follow, all_follow}
+use Rattle.rj_csv_io.specs.Internal.StrictWalk.{walk, over_quote, place_after, may_not_follow, all_follow}
 use Rattle.rj_csv_io.specs.declared.strict.standing.Place.{Place}
 use Rattle.rj_csv_io.specs.declared.strict.standing.Place.TheVariants as place
 use Rattle.rj_csv_io.proofs.WalkFacts.{last_of, follow-none, follow-more, follow-walk, walk-none, walk-append, walk-quote, closed-walk}

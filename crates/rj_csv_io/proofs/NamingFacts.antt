@@ -5,7 +5,7 @@ use Rattle.std.specs.Bool.{Decides}
 use Rattle.std.specs.Str.{str_eq_ignore_ascii_case}
 use Rattle.std.proofs.lemmas.List.{drop_all, get_or-map, length-map, take-map, take_more}
 use Rattle.std.proofs.lemmas.List.Folds.{list_any-append, list_any_at}
-use Rattle.rj_csv_io.specs.NameColumns.{column_in, columns_in}
+use Rattle.rj_csv_io.specs.Internal.NameColumns.{column_in, columns_in}
 use Rattle.rj_csv_io.specs.Named.{Column, column_of, columns_after, free_from, free_name, given_from, have_names, is_taken, names_of, needs_name, numbered, stem_of}
 use Rattle.rj_csv_io.specs.declared.names.column.NamedColumn.{NamedColumn}
 use Rattle.rj_csv_io.proofs.FreeFacts.{alike-decided, lower}

@@ -6,7 +6,7 @@ use Rattle.std.proofs.lemmas.List.{append-nil, map-append, at_drop_more, at_drop
 use Rattle.csv.specs.Reading.{strip_bom}
 use Rattle.rj_csv_io.specs.Grammar.{Field, escaped, non-escaped, Line, LineEnd, LF, CRLF, File, dquote, cr, lf, doubled, field_text, fields_text, is_blank, end_text, lines_text, names_of, file_text, Derives}
 use Rattle.rj_csv_io.specs.StrictReading.{begins_empty, quoted, quoted_line}
-use Rattle.rj_csv_io.specs.StrictSteps.{initial_standing, step_of}
+use Rattle.rj_csv_io.specs.Internal.StrictSteps.{initial_standing, step_of}
 use Rattle.rj_csv_io.specs.declared.strict.header.HeaderPlace.{HeaderPlace}
 use Rattle.rj_csv_io.specs.declared.strict.header.HeaderPlace.TheVariants.{First}
 use Rattle.rj_csv_io.specs.declared.strict.fault.StrictFault.{StrictFault}

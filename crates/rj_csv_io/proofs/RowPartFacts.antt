@@ -5,7 +5,7 @@ use Rattle.std.specs.List.{concat}
 use Rattle.std.proofs.Math.Nat.{mul-le-mul_left}
 use Rattle.std.proofs.lemmas.List.{append-nil, get_or-drop, map-append, take_more}
 use Rattle.std.proofs.lemmas.List.Folds.{concat-append}
-use Rattle.rj_csv_io.specs.RowParts.{part_start}
+use Rattle.rj_csv_io.specs.Internal.RowParts.{part_start}
 
 -- the first part begins at the first row
 pub start-none : (rows parts : ℕ) → 0 < parts → part_start rows parts 0 ≡ 0

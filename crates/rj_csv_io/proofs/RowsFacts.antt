@@ -15,7 +15,7 @@ use Rattle.rj_csv_io.specs.declared.refused.ReadRefused.{ReadRefused}
 use Rattle.rj_csv_io.specs.declared.refused.ReadRefused.TheVariants as refused
 use Rattle.rj_csv_io.specs.Typed.{is_null_field, read_cell, typed_cell, read_cells, is_int_text}
 use Rattle.rj_csv_io.specs.Remaining.{rows_from}
-use Rattle.rj_csv_io.specs.RowReading.{HasReadRow}
+use Rattle.rj_csv_io.specs.Internal.RowReading.{HasReadRow}
 use Rattle.rj_csv_io.specs.Rows.{read_row, read_rows}
 
 -- a sign leaves the size

@@ -4,7 +4,7 @@ use Rattle.std.proofs.Common.{refl, sym, ap, arith, ◌∙◌}
 use Rattle.std.proofs.lemmas.List.{length_push}
 use Rattle.rj_csv_io.specs.Grammar.{Field, escaped, non-escaped, Line, LineEnd, LF, CRLF, File, dquote, cr, lf, is_blank, names_of, width}
 use Rattle.rj_csv_io.specs.StrictFaults.{first_row}
-use Rattle.rj_csv_io.specs.StrictSteps.{initial_standing, header_below, forbids_empty, next_line, next_field, end_empty, at_delimiter, at_lf, at_cr, at_dquote, at_textdata, step_of, end_of, step_then, verdict}
+use Rattle.rj_csv_io.specs.Internal.StrictSteps.{initial_standing, header_below, forbids_empty, next_line, next_field, end_empty, at_delimiter, at_lf, at_cr, at_dquote, at_textdata, step_of, end_of, step_then, verdict}
 use Rattle.rj_csv_io.specs.declared.strict.header.HeaderPlace.{HeaderPlace}
 use Rattle.rj_csv_io.specs.declared.strict.header.HeaderPlace.TheVariants.{First, Above}
 use Rattle.rj_csv_io.specs.declared.strict.fault.StrictFault.{StrictFault}

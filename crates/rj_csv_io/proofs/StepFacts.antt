@@ -1,7 +1,7 @@
 -- How far one byte leads.
 use Rattle.std.proofs.Common.{◌≡◌, ◌≤◌, ◌+◌, ◌∷◌, ℕ, Bool, true, false, List, [], Ok, Err, refl, sym, subst, arith}
 use Rattle.std.specs.Prelude.{◌==◌, Result, if◌then◌else◌}
-use Rattle.rj_csv_io.specs.StrictSteps.{end_of, at_delimiter, at_lf, at_cr, at_dquote, at_textdata, step_of, end_empty, forbids_empty, next_line, next_field, verdict}
+use Rattle.rj_csv_io.specs.Internal.StrictSteps.{end_of, at_delimiter, at_lf, at_cr, at_dquote, at_textdata, step_of, end_empty, forbids_empty, next_line, next_field, verdict}
 use Rattle.rj_csv_io.specs.declared.strict.fault.StrictFault.{StrictFault}
 use Rattle.rj_csv_io.specs.declared.strict.standing.Place.{Place}
 use Rattle.rj_csv_io.specs.declared.strict.standing.Place.TheVariants as place

@@ -4,8 +4,8 @@ use Rattle.std.specs.List.{list_all}
 use Rattle.std.proofs.Common.{refl, sym, ap, ◌∙◌, arith}
 use Rattle.std.proofs.lemmas.Bool.{and_parts, and_from, or_parts, not-true, not_from_false, false≢true}
 use Rattle.rj_csv_io.specs.Grammar.{dquote, cr, lf}
-use Rattle.rj_csv_io.specs.StrictSteps.{initial_standing, step_of, end_of, step_then, verdict}
-use Rattle.rj_csv_io.specs.StrictWalk.{by_byte, walk_byte, walk, over_quote, place_after, may_not_follow, all_follow, may_end}
+use Rattle.rj_csv_io.specs.Internal.StrictSteps.{initial_standing, step_of, end_of, step_then, verdict}
+use Rattle.rj_csv_io.specs.Internal.StrictWalk.{by_byte, walk_byte, walk, over_quote, place_after, may_not_follow, all_follow, may_end}
 use Rattle.rj_csv_io.specs.declared.strict.header.HeaderPlace.{HeaderPlace}
 use Rattle.rj_csv_io.specs.declared.strict.fault.StrictFault.{StrictFault}
 use Rattle.rj_csv_io.specs.declared.strict.standing.Place.{Place}

@@ -1,12 +1,9 @@
 pub mod Typed
 pub mod Rows
 pub mod Remaining
-pub mod RowReading
 pub mod Tables
 pub mod Shown
 pub mod Written
-pub mod Blocks
-pub mod RowParts
 pub mod Devices
 pub mod Cuts
 pub mod Parts
@@ -17,11 +14,9 @@ pub mod Ends
 pub mod Columns
 pub mod Grammar
 pub mod StrictFaults
-pub mod StrictSteps
 pub mod StrictReading
-pub mod StrictWalk
 pub mod JoinedTexts
 pub mod Named
 pub mod NameEnds
 pub mod Completed
-pub mod NameColumns
+pub mod Internal

@@ -3,7 +3,7 @@
 ghost use Rattle.std.specs.Prelude.{◌≡◌, ◌<◌, ◌≤◌, ◌-◌, ◌+◌, ◌^◌, ℕ, false, IsTrue, IfOk, IfSome, MatchOption};
 ghost use Rattle.rj_columns.specs.Contents.{content_of};
 ghost use Rattle.rj_csv_io.specs.Ambiguous.{AreClear, IsClearRow, IsFirstAmbiguous, IsFirstInRow, is_ambiguous};
-ghost use Rattle.rj_csv_io.specs.Blocks.{Holds};
+ghost use Rattle.rj_csv_io.specs.Internal.Blocks.{Holds};
 ghost use Rattle.rj_csv_io.specs.Tables.{is_null_text};
 
 use crate::block::{RowBlock, next_block, no_rows};

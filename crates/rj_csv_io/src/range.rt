@@ -3,7 +3,7 @@
 ghost use Rattle.std.specs.Prelude.{◌≡◌, ◌<◌, ◌≤◌, ◌++◌, ◌-◌, List, ℕ, [], map, length, slice_index_or, OnOk, IfOk};
 ghost use Rattle.std.specs.List.{concat};
 ghost use Rattle.csv.specs.Writing.{row_text};
-ghost use Rattle.rj_csv_io.specs.Blocks.{Holds};
+ghost use Rattle.rj_csv_io.specs.Internal.Blocks.{Holds};
 ghost use Rattle.rj_csv_io.specs.Shown.{range_text, shown, writer_of};
 ghost use Rattle.rj_csv_io.specs.Written.{HasWritten};
 

@@ -2,7 +2,7 @@
 
 ghost use Rattle.std.specs.Prelude.{◌≡◌, ◌<◌, ◌≤◌, ◌++◌, ◌∷◌, ℕ, List, [], drop, length, min, slice_index_or, map, OnOk, IfOk};
 ghost use Rattle.csv.specs.Writing.{writer_under};
-ghost use Rattle.rj_csv_io.specs.Blocks.{Holds};
+ghost use Rattle.rj_csv_io.specs.Internal.Blocks.{Holds};
 ghost use Rattle.rj_csv_io.specs.Ends.{record_of, records_between};
 ghost use Rattle.rj_csv_io.specs.Written.{HasWritten, IsSettled};
 

@@ -4,7 +4,7 @@ ghost use Rattle.std.specs.Prelude.{◌≡◌, ◌<◌, ◌≤◌, ◌+◌, leng
 ghost use Rattle.std.specs.Io.KnownBytes.{Appends};
 ghost use Rattle.std.specs.List.{concat};
 ghost use Rattle.rj_csv_io.specs.Devices.{CountsFailure};
-ghost use Rattle.rj_csv_io.specs.RowParts.{part_start, IsPartText, ArePartTexts};
+ghost use Rattle.rj_csv_io.specs.Internal.RowParts.{part_start, IsPartText, ArePartTexts};
 ghost use Rattle.rj_csv_io.specs.Shown.{range_text, rows_text, shown, table_text};
 ghost use Rattle.rj_csv_io.specs.Tables.{is_null_text};
 

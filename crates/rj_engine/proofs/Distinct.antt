@@ -11,7 +11,7 @@ use Rattle.rj_condition.specs.Joins.{keeps}
 use Rattle.std.proofs.lemmas.List.Elements.{All-weaker}
 use Rattle.rj_engine.proofs.Sources.{pairs-within}
 use Rattle.rj_engine.specs.Expected.{AreDistinct}
-use Rattle.rj_engine.specs.Marks.{IsMarked}
+use Rattle.rj_engine.specs.Internal.Marks.{IsMarked}
 use Rattle.rj_engine.specs.Join.{JoinedValue}
 use Rattle.rj_engine.specs.Results.{joined_of, kept_pairs}
 

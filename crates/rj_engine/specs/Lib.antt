@@ -1,11 +1,9 @@
 pub use Rattle.rj_settings.specs.Limits
 pub mod Join
-pub mod Marks
 pub mod Results
 pub mod Origins
 pub mod Cells
 pub mod Partitioned
-pub mod Ranges
 pub mod Stripes
 pub mod Pools
 pub mod Once
@@ -19,3 +17,4 @@ pub mod Violations
 pub mod KeyGroups
 pub mod Reports
 pub mod Counts
+pub mod Internal

@@ -6,7 +6,7 @@ ghost use Rattle.rj_columns.specs.Scales.{coalesced, in_scale};
 ghost use Rattle.rj_columns.specs.Tables.{cell_of};
 ghost use Rattle.rj_engine.specs.Cells.{coalesced_scale, joined_cell, left_cell, members_rows, right_cell, scale_of};
 ghost use Rattle.rj_engine.specs.Cells.{IsLeftRow, IsMemberOf, IsRightRow};
-ghost use Rattle.rj_engine.specs.Marks.{row_on};
+ghost use Rattle.rj_engine.specs.Internal.Marks.{row_on};
 ghost use Rattle.rj_engine.specs.Shown.{counted_from};
 ghost use Rattle.rj_engine.specs.declared.origin.Origin.TheVariants as origin;
 

@@ -2,7 +2,7 @@
 
 ghost use Rattle.std.specs.Prelude.{◌≡◌, ◌<◌, ◌↔◌, All, IfOk, IsTrue, length, map};
 ghost use Rattle.rj_engine.specs.Expected.{AreDistinct, AreMatched, HasAtMost, HasNoLone, IsAsExpected};
-ghost use Rattle.rj_engine.specs.Marks.{row_on};
+ghost use Rattle.rj_engine.specs.Internal.Marks.{row_on};
 ghost use Rattle.rj_engine.specs.Results.{joined_of};
 
 use crate::joined::Joined;

@@ -2,7 +2,7 @@
 
 ghost use Rattle.std.specs.Prelude.{◌≡◌, ◌<◌, ◌↔◌, ℕ, All, IfOk, IsTrue, MatchOption, Some, length, map, slice_index};
 ghost use Rattle.rj_engine.specs.Expected.{AreDistinct, AreMatched, HasNoLone, IsAsExpected};
-ghost use Rattle.rj_engine.specs.Marks.{row_on};
+ghost use Rattle.rj_engine.specs.Internal.Marks.{row_on};
 ghost use Rattle.rj_engine.specs.Results.{joined_of};
 ghost use Rattle.rj_engine.specs.Violations.{IsFirstRepeated, IsLoneViolation, IsPairViolation, IsViolation, times};
 

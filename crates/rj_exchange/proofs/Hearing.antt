@@ -6,7 +6,7 @@ use Rattle.rj_exchange.specs.declared.boxes.Inbox.{Inbox}
 use Rattle.rj_exchange.specs.declared.queue.Trace.{Trace}
 use Rattle.rj_exchange.specs.Passing.{taker}
 use Rattle.rj_exchange.specs.Boxes.{Queue, sent_of, taken_of, heard_of, taken_by_lane, heard_by_lane, where_at, IsEndOf, IsInboxOf, HasHeard}
-use Rattle.rj_exchange.specs.Ends.{IsTaker, IsGrown}
+use Rattle.rj_exchange.specs.Internal.Ends.{IsTaker, IsGrown}
 use Rattle.rj_exchange.proofs.Stubs.{get_or-map, pick, row_fits, taker_self}
 
 pub heard_of_none : (e : Exchange) (i : Inbox) → IsInboxOf e i → HasHeard e 0 i

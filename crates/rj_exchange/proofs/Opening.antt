@@ -7,7 +7,7 @@ use Rattle.rj_exchange.specs.declared.queue.Trace.{Trace}
 use Rattle.rj_exchange.specs.declared.boxes.Outbox.{Outbox}
 use Rattle.rj_exchange.specs.declared.boxes.Inbox.{Inbox}
 use Rattle.rj_exchange.specs.Boxes.{Queue, heard_of}
-use Rattle.rj_exchange.specs.Opening.{place_of, IsFreshStub, IsFreshEnd, AddsStub}
+use Rattle.rj_exchange.specs.Internal.Opening.{place_of, IsFreshStub, IsFreshEnd, AddsStub}
 use Rattle.rj_exchange.proofs.Of.{past_end, before_end, at_end}
 use Rattle.rj_exchange.proofs.Stubs.{get_or-map, length-map', pick}
 

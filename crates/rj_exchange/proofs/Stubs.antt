@@ -12,7 +12,7 @@ use Rattle.rj_exchange.specs.declared.ledger.parcel.Parcel.{Parcel}
 use Rattle.rj_exchange.specs.declared.posted.Posted.{Posted}
 use Rattle.rj_exchange.specs.Passing.{taker, sender, Interleaves}
 use Rattle.rj_exchange.specs.Boxes.{Queue, sent_of, IsStubOf, IsAllSent}
-use Rattle.rj_exchange.specs.Ends.{IsTaker, IsGrown, Knows, known_of}
+use Rattle.rj_exchange.specs.Internal.Ends.{IsTaker, IsGrown, Knows, known_of}
 use Rattle.rj_exchange.proofs.Of.{past_end, before_end, at_end}
 
 module _ {A : Type 0} where

@@ -2,7 +2,7 @@
 use Rattle.std.proofs.Common.{◌≡◌, ◌∙◌, ◌++◌, ℕ, List, Option, refl, sym, ap, subst}
 use Rattle.rj_columns.specs.declared.cell.ColumnType.{ColumnType}
 use Rattle.rj_settings.specs.Lists.{BeginsEntry}
-use Rattle.rj_settings.specs.Scanning.{label_in, or_place}
+use Rattle.rj_settings.specs.Internal.Scanning.{label_in, or_place}
 use Rattle.rj_settings.specs.Words.{BeginsType, before}
 use Rattle.rj_settings.specs.declared.types.entry.Label.{Label}
 use Rattle.rj_settings.specs.declared.types.entry.TypeEntry.{TypeEntry}

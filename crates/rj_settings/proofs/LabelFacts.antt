@@ -4,7 +4,7 @@ use Rattle.rj_columns.specs.declared.cell.ColumnType.{ColumnType}
 use Rattle.rj_columns.specs.declared.cell.ColumnType.TheVariants as kind
 use Rattle.rj_condition.specs.declared.tree.Name.{Name}
 use Rattle.rj_settings.specs.Labels.{IsLabelText, IsNameWord}
-use Rattle.rj_settings.specs.Scanning.{behind, label_by, label_in, labelled, name_in, or_place, rest_by}
+use Rattle.rj_settings.specs.Internal.Scanning.{behind, label_by, label_in, labelled, name_in, or_place, rest_by}
 use Rattle.rj_settings.specs.Words.{IsTypeWord, before}
 use Rattle.rj_settings.specs.declared.types.entry.Label.{Label}
 use Rattle.rj_settings.specs.declared.types.entry.Label.TheVariants as of

@@ -8,13 +8,13 @@ use Rattle.std.proofs.lemmas.Bool.{and_parts, cases_Bool, eqb-true}
 use Rattle.std.proofs.lemmas.Bool.Decides.{nat_tests}
 use Rattle.std.proofs.lemmas.List.{take-append-drop}
 use Rattle.std.proofs.Math.Seq.{drop-append_seam, take-append_seam}
-use Rattle.rj_condition.specs.Scanning.{quoted}
+use Rattle.rj_condition.specs.Internal.Scanning.{quoted}
 use Rattle.rj_condition.specs.Tokens.{begins, doubled, in_quotes, is_name_byte}
 use Rattle.rj_condition.specs.declared.tree.Name.{Name}
 use Rattle.rj_condition.proofs.Quotes.{is_quote, quoted_complete, quoted_sound}
 use Rattle.rj_condition.proofs.Runs.{run_is}
 use Rattle.rj_settings.specs.Labels.{IsNameWord, is_regular}
-use Rattle.rj_settings.specs.Scanning.{behind, delimited_at, name_by, name_in, named, regular_at}
+use Rattle.rj_settings.specs.Internal.Scanning.{behind, delimited_at, name_by, name_in, named, regular_at}
 use Rattle.rj_settings.specs.Words.{text_of}
 use Rattle.rj_settings.proofs.WordFacts.{some_same}
 

@@ -9,7 +9,7 @@ use Rattle.rj_settings.specs.declared.choice.SelectedColumn.{SelectedColumn}
 use Rattle.rj_settings.specs.declared.choice.Source.{Source}
 use Rattle.rj_settings.specs.declared.choice.Source.TheVariants as source
 use Rattle.rj_settings.specs.Labels.{IsNameWord}
-use Rattle.rj_settings.specs.Scanning.{behind, column_by, column_in, column_of, name_in, qualified, renamed, selected_by, selected_in, selected_of, written_by, written_in}
+use Rattle.rj_settings.specs.Internal.Scanning.{behind, column_by, column_in, column_of, name_in, qualified, renamed, selected_by, selected_in, selected_of, written_by, written_in}
 use Rattle.rj_settings.specs.Selected.{BeginsSelected, IsQualifier, IsRenaming, IsSelected, source_of}
 use Rattle.rj_settings.specs.Words.{before}
 use Rattle.rj_settings.proofs.NameFacts.{EndsName, HasName, behind_sound, name_found, name_sound}

@@ -6,7 +6,7 @@ use Rattle.rj_csv_io.specs.Grammar.{lines_text}
 use Rattle.rj_shards.specs.Blocks.{BeginDerived, StandDerived, above, in_all, in_lines, in_text}
 use Rattle.rj_shards.specs.Divisions.{Dividing, IsDivided, IsPartlyDivided}
 use Rattle.rj_shards.specs.Texts.{BeginIn, HaveFirstRows, StandIn}
-use Rattle.rj_shards.specs.Underway.{AreBehind}
+use Rattle.rj_shards.specs.Internal.Underway.{AreBehind}
 use Rattle.rj_shards.specs.declared.division.reading.Reading.{Reading}
 use Rattle.rj_shards.specs.declared.division.reading.Reading.TheVariants as reading
 use Rattle.rj_shards.specs.declared.division.refused.DivideRefused.{DivideRefused}

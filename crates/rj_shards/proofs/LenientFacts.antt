@@ -6,7 +6,7 @@ use Rattle.csv.specs.Machine.{next_record}
 use Rattle.csv.specs.Reading.{records, records_from}
 use Rattle.rj_csv_io.specs.Pieces.{piece_records}
 use Rattle.rj_csv_io.specs.StrictReading.{config_of}
-use Rattle.rj_shards.specs.Underway.{SplitsAs, behind_header}
+use Rattle.rj_shards.specs.Internal.Underway.{SplitsAs, behind_header}
 
 -- no bytes have no records
 pub records-none : (d : ℕ) → records (config_of d) [] ≡ []

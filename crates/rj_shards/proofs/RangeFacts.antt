@@ -13,8 +13,8 @@ use Rattle.rj_csv_io.specs.Pieces.{IsLineEnd, piece_records}
 use Rattle.rj_csv_io.proofs.CutFacts.{after-append, records-split}
 use Rattle.rj_csv_io.specs.StrictReading.{config_of}
 use Rattle.rj_shards.specs.Ranges.{AreCuts, AreShort, EndIn, IsCutPlace, IsCutting, IsReadFor, IsShort, RiseBy, RiseTo, range_records}
-use Rattle.rj_shards.specs.Taken.{IsTaken}
-use Rattle.rj_shards.specs.Underway.{SplitsAs}
+use Rattle.rj_shards.specs.Internal.Taken.{IsTaken}
+use Rattle.rj_shards.specs.Internal.Underway.{SplitsAs}
 use Rattle.rj_shards.specs.declared.division.cuts.Cutting.{Cutting}
 use Rattle.rj_shards.proofs.ShortFacts.{line-in, line-out, read-bound, short-more, short-none}
 use Rattle.rj_shards.proofs.TakenFacts.{none-more, order-now, taken-more, taken-none, told-now}

@@ -4,7 +4,7 @@ use Rattle.std.specs.Io.KnownBytes.{Consumes, IsAtEnd}
 use Rattle.std.proofs.lemmas.List.{length-append, length-drop, length-take-le, take-append-drop}
 use Rattle.rj_csv_io.specs.Pieces.{IsLineEnd}
 use Rattle.rj_shards.specs.Ranges.{IsPiece, IsReadFor}
-use Rattle.rj_shards.specs.Taken.{IsTaken}
+use Rattle.rj_shards.specs.Internal.Taken.{IsTaken}
 use Rattle.rj_shards.proofs.ShortFacts.{line-back, line-rest, read-bound}
 
 -- nothing is taken away yet

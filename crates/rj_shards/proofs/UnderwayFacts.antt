@@ -21,7 +21,7 @@ use Rattle.rj_shards.specs.Divisions.{Dividing, IsDivided, after_rows}
 use Rattle.rj_shards.specs.Ranges.{IsPiece, IsReadFor}
 use Rattle.rj_shards.specs.Readings.{IsFaultBehind}
 use Rattle.rj_shards.specs.Texts.{AreRecordsOf, BeginIn, HaveFirstRows, IsBroken, IsDivisionFault, IsPieceFault, IsTextDivided, StandIn, reading_of_piece, with_flag}
-use Rattle.rj_shards.specs.Underway.{AreBehind, Beginning, IsUnderway, ReadsOn, behind_header}
+use Rattle.rj_shards.specs.Internal.Underway.{AreBehind, Beginning, IsUnderway, ReadsOn, behind_header}
 use Rattle.rj_shards.proofs.BrokenFacts.{EndsWell, Reads}
 use Rattle.rj_shards.proofs.DivisionFacts.{divided-more, divided-none, part-more}
 use Rattle.rj_shards.proofs.FirstFacts.{begin-done, first-divided}

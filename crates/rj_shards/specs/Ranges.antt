@@ -5,7 +5,7 @@ use Rattle.csv.specs.declared.parser.State.TheVariants as st
 use Rattle.rj_csv_io.specs.Cuts.{state_after}
 use Rattle.rj_csv_io.specs.Pieces.{IsLastEnd, IsLineEnd, piece_records}
 use Rattle.rj_csv_io.specs.StrictReading.{config_of}
-use Rattle.rj_shards.specs.Taken.{IsTaken}
+use Rattle.rj_shards.specs.Internal.Taken.{IsTaken}
 use Rattle.rj_shards.specs.declared.division.cuts.Cutting.{Cutting}
 use Rattle.rj_shards.specs.declared.division.refused.DivideRefused.{DivideRefused}
 use Rattle.rj_shards.specs.declared.division.refused.DivideRefused.TheVariants as refused

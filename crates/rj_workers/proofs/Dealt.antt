@@ -19,9 +19,9 @@ use Rattle.rj_workers.specs.declared.coordination.Coordination.{Coordination}
 use Rattle.rj_workers.specs.declared.coordination.Seats.{Seats}
 use Rattle.rj_workers.specs.declared.workers.NewWorkers.{NewWorkers}
 use Rattle.rj_workers.specs.Posts.{NothingPosted}
-use Rattle.rj_workers.specs.Scans.{AreNewOutboxes, IsFreshStripeSeat, scanner_seats}
-use Rattle.rj_workers.specs.Takes.{taker_seats, taker_done_seats}
-use Rattle.rj_workers.specs.Workers.{AreNewWorkersOf, AreSeats, AreWorkersWith}
+use Rattle.rj_workers.specs.Internal.Scans.{AreNewOutboxes, IsFreshStripeSeat, scanner_seats}
+use Rattle.rj_workers.specs.Internal.Takes.{taker_seats, taker_done_seats}
+use Rattle.rj_workers.specs.Internal.Workers.{AreNewWorkersOf, AreSeats, AreWorkersWith}
 use Rattle.rj_workers.proofs.Lists.{get_or-map}
 use Rattle.rj_workers.proofs.Posts.{next_is}
 

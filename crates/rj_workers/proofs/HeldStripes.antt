@@ -5,7 +5,7 @@ use Rattle.rj_exchange.specs.Tickets.{times}
 use Rattle.rj_exchange.specs.Striping.{without}
 use Rattle.rj_exchange.proofs.Striping.{put_back_undoes}
 use Rattle.rj_workers.specs.Posts.{Due, Posts, KeepsPosts}
-use Rattle.rj_workers.specs.Scans.{HasPostedStripe}
+use Rattle.rj_workers.specs.Internal.Scans.{HasPostedStripe}
 use Rattle.rj_workers.proofs.Posts.{kept_posted}
 
 -- what is held once the last number drawn was put back was held before it was drawn

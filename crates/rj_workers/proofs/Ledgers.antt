@@ -7,7 +7,7 @@ use Rattle.rj_exchange.proofs.EngineFacts.{shape_stays}
 use Rattle.rj_exchange.specs.declared.posted.Posted.{Posted}
 use Rattle.rj_exchange.specs.Boxes.{PostedVec}
 use Rattle.rj_workers.specs.Arrivals.{rows_by_sender, parcel_of, parcels_of}
-use Rattle.rj_workers.specs.Takes.{Builds, IsBuilding}
+use Rattle.rj_workers.specs.Internal.Takes.{Builds, IsBuilding}
 use Rattle.rj_workers.specs.declared.take.Building.{Building}
 use Rattle.rj_workers.specs.declared.take.Building.TheVariants.{Waiting, Left, Done}
 

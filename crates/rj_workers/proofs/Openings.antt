@@ -15,8 +15,8 @@ use Rattle.rj_workers.proofs.Lists.{pick, get_or-map}
 use Rattle.rj_workers.proofs.Lists.{past_end}
 use Rattle.rj_workers.specs.Posts.{NothingPosted}
 use Rattle.rj_workers.specs.Arrivals.{IsArrived}
-use Rattle.rj_workers.specs.Scans.{AreNewOutboxes}
-use Rattle.rj_workers.specs.Takes.{AreFreshInboxes}
+use Rattle.rj_workers.specs.Internal.Scans.{AreNewOutboxes}
+use Rattle.rj_workers.specs.Internal.Takes.{AreFreshInboxes}
 use Rattle.rj_workers.proofs.Ends.{none_in, place_within}
 
 pub nothing_arrived : (i : Inbox) (lanes : ℕ) → length i.ends.items ≡ lanes → ((k : ℕ) (s : Stub) → k < lanes → taken_of (get_or i.ends.items k s) ≡ []) → IsArrived (taken_by_lane i) []

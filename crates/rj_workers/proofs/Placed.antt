@@ -6,8 +6,8 @@ use Rattle.std.specs.Prelude.{All}
 use Rattle.std.proofs.lemmas.List.Elements.{Contains-append_left, Contains-push}
 use Rattle.rj_exchange.specs.declared.boxes.Exchange.{Exchange}
 use Rattle.rj_workers.specs.declared.take.OwnedPartition.{OwnedPartition}
-use Rattle.rj_workers.specs.Ends.{ArePlaced}
-use Rattle.rj_workers.specs.Takes.{Builds, IsOwnedOf, IsSlot}
+use Rattle.rj_workers.specs.Internal.Ends.{ArePlaced}
+use Rattle.rj_workers.specs.Internal.Takes.{Builds, IsOwnedOf, IsSlot}
 use Rattle.rj_workers.proofs.Posts.{next_at}
 
 module _ {T : Type 0} where

@@ -31,9 +31,9 @@ use Rattle.rj_workers.specs.declared.take.Taker.{Taker}
 use Rattle.rj_workers.specs.declared.ending.EndedPartition.{EndedPartition}
 use Rattle.rj_workers.specs.Posts.{Due, Posts, posts_at, AreAllAt}
 use Rattle.rj_workers.specs.Arrivals.{IsPartition, IsDelivered, AreOutboxes, stub_lists, rows_by_sender, due_lists}
-use Rattle.rj_workers.specs.Scans.{KnowsHalt, AreScans, HasPostedStripe}
-use Rattle.rj_workers.specs.Takes.{Builds, IsOwnedOf, AreTakes}
-use Rattle.rj_workers.specs.Ends.{IsEnded, IsSettled}
+use Rattle.rj_workers.specs.Internal.Scans.{KnowsHalt, AreScans, HasPostedStripe}
+use Rattle.rj_workers.specs.Internal.Takes.{Builds, IsOwnedOf, AreTakes}
+use Rattle.rj_workers.specs.Internal.Ends.{IsEnded, IsSettled}
 use Rattle.rj_workers.proofs.Parts.{lists_at}
 
 -- seats that have neither raised nor seen the word

@@ -4,9 +4,9 @@ ghost use Rattle.rj_exchange.specs.Halt.{AnyRaised, AnySeen, AreAllHaltSeats, Is
 ghost use Rattle.rj_exchange.specs.Stripes.{AreAllStripeSeats, held_by, stripes_of};
 ghost use Rattle.rj_exchange.specs.Tickets.{EachOnce};
 ghost use Rattle.rj_workers.specs.Arrivals.{IsDelivered, due_lists, rows_by_sender};
-ghost use Rattle.rj_workers.specs.Workers.{IsCoordination, AreEndedWorkersOf};
-ghost use Rattle.rj_workers.specs.Takes.{IsOwnedOf, IsBuilding};
-ghost use Rattle.rj_workers.specs.Ends.{ArePlaced, AreSettled, AreSlots};
+ghost use Rattle.rj_workers.specs.Internal.Workers.{IsCoordination, AreEndedWorkersOf};
+ghost use Rattle.rj_workers.specs.Internal.Takes.{IsOwnedOf, IsBuilding};
+ghost use Rattle.rj_workers.specs.Internal.Ends.{ArePlaced, AreSettled, AreSlots};
 
 use crate::coordination::Coordination;
 use crate::ending::{EndShared, EndedPartition, finish_all};

@@ -1,6 +1,6 @@
 //! The words, tickets and stripes of a run.
 ghost use Rattle.std.specs.Prelude.{◌≡◌, ◌≤◌, IfOk};
-ghost use Rattle.rj_workers.specs.Workers.{AreSeats, IsCoordination};
+ghost use Rattle.rj_workers.specs.Internal.Workers.{AreSeats, IsCoordination};
 
 use crate::settings::WorkerSettings;
 use crate::shared::Shared;

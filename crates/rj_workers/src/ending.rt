@@ -5,8 +5,8 @@ ghost use Rattle.std.specs.Vec.Iter.{into_iter_items};
 ghost use Rattle.rj_exchange.specs.Ledgers.{after_all};
 ghost use Rattle.rj_exchange.specs.Boxes.{sent_of, AreStubsOf};
 ghost use Rattle.rj_workers.specs.Arrivals.{AreFirstOf, AreOutboxes, HasArrived, parcel_of, parcels_of, stub_lists};
-ghost use Rattle.rj_workers.specs.Takes.{IsOwnedOf, IsBuilding};
-ghost use Rattle.rj_workers.specs.Ends.{AreSlots, IsEnded};
+ghost use Rattle.rj_workers.specs.Internal.Takes.{IsOwnedOf, IsBuilding};
+ghost use Rattle.rj_workers.specs.Internal.Ends.{AreSlots, IsEnded};
 
 use crate::job::Job;
 use crate::settings::WorkerSettings;

@@ -5,7 +5,7 @@ ghost use Rattle.std.specs.List.Sorted.{IsPermutation};
 ghost use Rattle.rj_exchange.specs.declared.ledger.parcel.Parcel.{Parcel};
 ghost use Rattle.rj_exchange.specs.Boxes.{sent_by_queue};
 ghost use Rattle.rj_workers.specs.Posts.{KeepsPosts, AddsLeft, AreInRange, PostsOrKeeps, IsLeft, IsPosted, is_sent, to_post};
-ghost use Rattle.rj_workers.specs.Scans.{KnowsHalt, IsScanner, SameScanner};
+ghost use Rattle.rj_workers.specs.Internal.Scans.{KnowsHalt, IsScanner, SameScanner};
 
 use crate::gate::{Gate, Place};
 use crate::pause::Pause;

@@ -2,9 +2,9 @@
 ghost use Rattle.std.specs.Prelude.{◌≡◌, ◌<◌, ◌+◌, ℕ, IfOk, length, slice_index_or};
 ghost use Rattle.rj_workers.specs.Arrivals.{IsDelivered, due_lists};
 ghost use Rattle.rj_workers.specs.Settings.{InLimits};
-ghost use Rattle.rj_workers.specs.Ends.{AreSettled};
-ghost use Rattle.rj_workers.specs.Scans.{AreNewOutboxes};
-ghost use Rattle.rj_workers.specs.Takes.{AreFreshInboxes, AreOpenedOf};
+ghost use Rattle.rj_workers.specs.Internal.Ends.{AreSettled};
+ghost use Rattle.rj_workers.specs.Internal.Scans.{AreNewOutboxes};
+ghost use Rattle.rj_workers.specs.Internal.Takes.{AreFreshInboxes, AreOpenedOf};
 
 use crate::closing::{Delivered, build_rest, conclude};
 use crate::coordination::open_coordination;

@@ -8,7 +8,7 @@ ghost use Rattle.rj_exchange.specs.Striping.{stripe as counted, without};
 ghost use Rattle.rj_workers.specs.Settings.{IsReady};
 ghost use Rattle.rj_workers.specs.declared.post.Sending.{Sending};
 ghost use Rattle.rj_workers.specs.Posts.{KeepsPosts, OnlyPlanned, NothingPosted, AreDue, IsCutStripe, to_post};
-ghost use Rattle.rj_workers.specs.Scans.{KnowsHalt, StopsAt, IsScanner, SameScanner, HasPostedStripe, IsScan};
+ghost use Rattle.rj_workers.specs.Internal.Scans.{KnowsHalt, StopsAt, IsScanner, SameScanner, HasPostedStripe, IsScan};
 
 use crate::gate::{Gate, Place};
 use crate::job::Job;

@@ -4,8 +4,8 @@ ghost use Rattle.std.specs.PromisedHandle.{KeepsEach};
 ghost use Rattle.rj_exchange.specs.Halt.{IsHaltSeatOf};
 ghost use Rattle.rj_exchange.specs.Tickets.{limit_of};
 ghost use Rattle.rj_workers.specs.Settings.{IsReady, IsReadyOf};
-ghost use Rattle.rj_workers.specs.Workers.{AreNewWorkers, AreNewWorkersOf, AreEndedWorkers, AreEndedWorkersOf};
-ghost use Rattle.rj_workers.specs.Takes.{AreOpened, AreOpenedOf};
+ghost use Rattle.rj_workers.specs.Internal.Workers.{AreNewWorkers, AreNewWorkersOf, AreEndedWorkers, AreEndedWorkersOf};
+ghost use Rattle.rj_workers.specs.Internal.Takes.{AreOpened, AreOpenedOf};
 
 use crate::gate::Gate;
 use crate::job::Job;

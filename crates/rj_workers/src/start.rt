@@ -2,8 +2,8 @@
 ghost use Rattle.std.specs.Prelude.{◌≡◌, ◌<◌, ◌≤◌, ◌++◌, ◌∷◌, [], ℕ, All, IfSome, length, slice_index_or};
 ghost use Rattle.rj_exchange.specs.Tickets.{limit_of};
 ghost use Rattle.rj_workers.specs.Settings.{IsReady, IsReadyOf};
-ghost use Rattle.rj_workers.specs.Scans.{IsNewScanner, AreNewScanners, IsScan, IsScanOf};
-ghost use Rattle.rj_workers.specs.Takes.{AreOpened, AreOpenedOf, IsNewTaker, IsTake, IsTakeOf};
+ghost use Rattle.rj_workers.specs.Internal.Scans.{IsNewScanner, AreNewScanners, IsScan, IsScanOf};
+ghost use Rattle.rj_workers.specs.Internal.Takes.{AreOpened, AreOpenedOf, IsNewTaker, IsTake, IsTakeOf};
 
 use crate::gate::Gate;
 use crate::job::Job;

@@ -2,7 +2,7 @@
 ghost use Rattle.std.specs.Prelude.{◌≡◌, ◌<◌, All, IfOk, false, length};
 ghost use Rattle.rj_exchange.specs.Ledgers.{after_offer};
 ghost use Rattle.rj_exchange.specs.Tickets.{limit_of};
-ghost use Rattle.rj_workers.specs.Takes.{IsTaker, IsOwned, IsTake, IsTried, AreOpened, is_settled};
+ghost use Rattle.rj_workers.specs.Internal.Takes.{IsTaker, IsOwned, IsTake, IsTried, AreOpened, is_settled};
 
 use crate::gate::{Gate, Place};
 use crate::job::Job;

@@ -1,9 +1,9 @@
 //! The workers of a run, as they start and as they end.
 ghost use Rattle.std.specs.Prelude.{◌≡◌, ◌++◌, All, IfOk};
 ghost use Rattle.std.specs.Vec.Iter.{into_iter_items};
-ghost use Rattle.rj_workers.specs.Workers.{AreWorkersWith, IsPrefix};
-ghost use Rattle.rj_workers.specs.Scans.{scanner_draws, scanner_outboxes, scanner_seats};
-ghost use Rattle.rj_workers.specs.Takes.{OwnsNothing, taker_done_seats, taker_draws, taker_seats};
+ghost use Rattle.rj_workers.specs.Internal.Workers.{AreWorkersWith, IsPrefix};
+ghost use Rattle.rj_workers.specs.Internal.Scans.{scanner_draws, scanner_outboxes, scanner_seats};
+ghost use Rattle.rj_workers.specs.Internal.Takes.{OwnsNothing, taker_done_seats, taker_draws, taker_seats};
 
 use crate::coordination::Seats;
 use crate::scan::Scanner;

@@ -2,7 +2,7 @@
 //! table alone.
 
 ghost use Rattle.std.specs.Prelude.{IfOk, IfSome};
-ghost use Rattle.rj_command.specs.Ends.{AreEndsOf};
+ghost use Rattle.rj_command.specs.Internal.Ends.{AreEndsOf};
 
 use rj_columns::Table;
 use rj_csv_io::{EndColumns, OutputFormat, RowTexts, null_end, row_texts};

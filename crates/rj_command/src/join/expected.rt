@@ -6,7 +6,7 @@ ghost use Rattle.rj_condition.specs.Splits.{rest_of};
 ghost use Rattle.rj_engine.specs.Expected.{HasAtMost};
 ghost use Rattle.rj_engine.specs.Results.{joined_of};
 ghost use Rattle.rj_command.specs.Expected.{IsExpected, IsUnexpected, refusal_of};
-ghost use Rattle.rj_command.specs.Prepared.{IsOutcome};
+ghost use Rattle.rj_command.specs.Internal.Prepared.{IsOutcome};
 
 use crate::join::early::early_excess;
 use crate::join::operands::Operands;

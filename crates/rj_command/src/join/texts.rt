@@ -11,8 +11,8 @@ ghost use Rattle.rj_csv_io.specs.Tables.{is_null_text};
 ghost use Rattle.rj_engine.specs.Shown.{IsRunWithin};
 ghost use Rattle.rj_engine.specs.declared.runs.Run.{Run};
 ghost use Rattle.rj_command.specs.declared.join.texts.Share.{Share};
-ghost use Rattle.rj_command.specs.Ends.{AreEndsOf};
-ghost use Rattle.rj_command.specs.Texts.{AreCounted, AreRunTexts, AreShownOf, AreTextsOf, AreWithin, HasEnds, cells_text, no_table, run_text, shown_cells, text_in, whole_text};
+ghost use Rattle.rj_command.specs.Internal.Ends.{AreEndsOf};
+ghost use Rattle.rj_command.specs.Internal.Texts.{AreCounted, AreRunTexts, AreShownOf, AreTextsOf, AreWithin, HasEnds, cells_text, no_table, run_text, shown_cells, text_in, whole_text};
 
 use crate::join::ends::Ends;
 use rj_columns::Table;

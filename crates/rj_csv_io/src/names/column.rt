@@ -1,7 +1,7 @@
 //! A column of a header, with the name that it has or was given.
 
 ghost use Rattle.std.specs.Prelude.{◌≡◌, string_bytes};
-ghost use Rattle.rj_csv_io.specs.NameColumns.{column_in};
+ghost use Rattle.rj_csv_io.specs.Internal.NameColumns.{column_in};
 ghost use Rattle.rj_csv_io.specs.Named.{Column};
 
 /// A name that a column was given.

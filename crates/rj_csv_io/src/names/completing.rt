@@ -4,7 +4,7 @@ ghost use Rattle.std.specs.Prelude.{◌≡◌, ◌++◌, ◌⊎◌, IfOk, MatchO
 ghost use Rattle.csv.specs.Reading.{strip_bom};
 ghost use Rattle.csv.specs.Writing.{row_text};
 ghost use Rattle.rj_csv_io.specs.Shown.{writer_of};
-ghost use Rattle.rj_csv_io.specs.NameColumns.{columns_in, told_of};
+ghost use Rattle.rj_csv_io.specs.Internal.NameColumns.{columns_in, told_of};
 ghost use Rattle.rj_csv_io.specs.Completed.{HasStrictHeader, IsCompleted, IsKept, IsNamed, header_of, is_left, mark, names_text};
 ghost use Rattle.rj_csv_io.specs.StrictFaults.{HasFault};
 ghost use Rattle.rj_csv_io.specs.Grammar.{Derives, File};

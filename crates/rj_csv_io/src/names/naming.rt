@@ -1,7 +1,7 @@
 //! The names of a header's columns.
 
 ghost use Rattle.std.specs.Prelude.{◌≡◌, ◌+◌, ◌++◌, ◌∷◌, ◌<◌, ◌^◌, IfNone, IfOk, IfSome, OnOk, false, length, map, slice_index_or, string_bytes, true, []};
-ghost use Rattle.rj_csv_io.specs.NameColumns.{column_in, columns_in, told_of};
+ghost use Rattle.rj_csv_io.specs.Internal.NameColumns.{column_in, columns_in, told_of};
 ghost use Rattle.rj_csv_io.specs.Named as names;
 
 use crate::names::column::{GivenName, NamedColumn};

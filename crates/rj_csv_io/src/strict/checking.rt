@@ -4,7 +4,7 @@ ghost use Rattle.std.specs.Prelude.{◌≡◌, true, Ok, Err, OnOk, IfErr};
 ghost use Rattle.rj_csv_io.specs.StrictFaults.{HasFault};
 ghost use Rattle.rj_csv_io.specs.Grammar.{Derives, File, may_delimit};
 ghost use Rattle.rj_csv_io.specs.StrictReading.{body_of};
-ghost use Rattle.rj_csv_io.specs.StrictSteps.{initial_standing, verdict};
+ghost use Rattle.rj_csv_io.specs.Internal.StrictSteps.{initial_standing, verdict};
 ghost use Rattle.rj_csv_io.specs.declared.strict.fault.StrictFault.{StrictFault};
 
 use crate::strict::clean::is_clean;

@@ -2,8 +2,8 @@
 
 ghost use Rattle.std.specs.Prelude.{◌≡◌, ◌<◌, ◌==◌, ℕ, true, false, Bool, Ok, Some, IfSome, length, slice_index};
 ghost use Rattle.rj_csv_io.specs.Grammar.{may_delimit};
-ghost use Rattle.rj_csv_io.specs.StrictSteps.{initial_standing, verdict};
-ghost use Rattle.rj_csv_io.specs.StrictWalk.{all_follow, may_end, may_not_follow, over_quote, place_after, walk};
+ghost use Rattle.rj_csv_io.specs.Internal.StrictSteps.{initial_standing, verdict};
+ghost use Rattle.rj_csv_io.specs.Internal.StrictWalk.{all_follow, may_end, may_not_follow, over_quote, place_after, walk};
 ghost use Rattle.rj_csv_io.specs.declared.strict.header.HeaderPlace.{HeaderPlace as Heading};
 ghost use Rattle.rj_csv_io.specs.declared.strict.standing.Place.TheVariants.{Start};
 

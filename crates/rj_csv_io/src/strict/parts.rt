@@ -3,7 +3,7 @@
 ghost use Rattle.std.specs.Prelude.{◌≡◌, ℕ, true, IfOk, IfSome, length, map};
 ghost use Rattle.std.specs.List.{concat};
 ghost use Rattle.rj_csv_io.specs.Grammar.{Derives, File};
-ghost use Rattle.rj_csv_io.specs.StrictWalk.{AreWalked, walk};
+ghost use Rattle.rj_csv_io.specs.Internal.StrictWalk.{AreWalked, walk};
 ghost use Rattle.rj_csv_io.specs.declared.strict.header.HeaderPlace.{HeaderPlace as Heading};
 ghost use Rattle.rj_csv_io.specs.declared.strict.standing.Place.TheVariants.{Start};
 

@@ -1,7 +1,7 @@
 //! Where a check is in a text, and what a byte does there.
 
 ghost use Rattle.std.specs.Prelude.{◌≡◌, ◌<◌, ◌≤◌, ◌+◌, ◌^◌, ◌-◌, Err};
-ghost use Rattle.rj_csv_io.specs.StrictSteps.{at_cr, at_delimiter, at_dquote, at_lf, at_textdata, end_empty, end_of, initial_standing, next_field, next_line, step_of};
+ghost use Rattle.rj_csv_io.specs.Internal.StrictSteps.{at_cr, at_delimiter, at_dquote, at_lf, at_textdata, end_empty, end_of, initial_standing, next_field, next_line, step_of};
 
 use crate::strict::fault::StrictFault;
 use crate::strict::header::HeaderPlace;

@@ -4,8 +4,8 @@ ghost use Rattle.std.specs.Vec.Iter.{into_iter_items};
 ghost use Rattle.crossbeam_queue.specs.Passes.{view, ruled_capacity};
 ghost use Rattle.rj_exchange.specs.Passing.{Belongs};
 ghost use Rattle.rj_exchange.specs.Boxes.{taken_by_lane, IsInboxOf, HasHeard, HearsOf, AreStubsOf, AreStubsFrom, AreRestsOf, BelongToLanes};
-ghost use Rattle.rj_exchange.specs.Ends.{IsLater, IsTaker, AreTakers, HaveHeardAll, IsSender, BeginWithSenders, IsGrown, AreGrown, AllKnow};
-ghost use Rattle.rj_exchange.specs.Ends.{IsRoom, AreRooms, IsRestOf, AreRests, BelongToQueues};
+ghost use Rattle.rj_exchange.specs.Internal.Ends.{IsLater, IsTaker, AreTakers, HaveHeardAll, IsSender, BeginWithSenders, IsGrown, AreGrown, AllKnow};
+ghost use Rattle.rj_exchange.specs.Internal.Ends.{IsRoom, AreRooms, IsRestOf, AreRests, BelongToQueues};
 
 use crate::boxes::{Exchange, Finished, Inbox, Stub};
 use crate::posted::Posted;

@@ -3,8 +3,8 @@ ghost use Rattle.std.specs.Prelude.{◌≡◌, ◌<◌, ◌≤◌, ◌+◌, ◌�
 ghost use Rattle.crossbeam_queue.specs.Passes.{view, IsPassOf};
 ghost use Rattle.rj_exchange.specs.Passing.{taker};
 ghost use Rattle.rj_exchange.specs.Boxes.{IsOpened};
-ghost use Rattle.rj_exchange.specs.Opening.{place_of, IsFreshStub, IsFreshQueue, AddStubs};
-ghost use Rattle.rj_exchange.specs.Ends.{IsTaker};
+ghost use Rattle.rj_exchange.specs.Internal.Opening.{place_of, IsFreshStub, IsFreshQueue, AddStubs};
+ghost use Rattle.rj_exchange.specs.Internal.Ends.{IsTaker};
 
 use crate::boxes::{Exchange, Inbox, Outbox, Stub};
 use crate::queue::{ParcelQueue, QueuePlace, deal, fix};

@@ -1,8 +1,8 @@
 //! The label at the front of a list.
 
 ghost use Rattle.std.specs.Prelude.{◌≡◌, IfOk};
-ghost use Rattle.rj_condition.specs.Scanning.{view};
-ghost use Rattle.rj_settings.specs.Scanning as scanning;
+ghost use Rattle.rj_condition.specs.Internal.Scanning.{view};
+ghost use Rattle.rj_settings.specs.Internal.Scanning as scanning;
 
 use crate::types::entry::Label;
 use crate::types::name::{behind, name_at};

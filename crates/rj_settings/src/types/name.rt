@@ -2,10 +2,10 @@
 
 ghost use Rattle.std.specs.Prelude.{◌≡◌, ◌<◌, IfOk};
 ghost use Rattle.std.specs.List.{list_all, prefix_len};
-ghost use Rattle.rj_condition.specs.Scanning.{quoted, view};
+ghost use Rattle.rj_condition.specs.Internal.Scanning.{quoted, view};
 ghost use Rattle.rj_condition.specs.Tokens.{is_name_byte};
 ghost use Rattle.rj_settings.specs.Labels as labels;
-ghost use Rattle.rj_settings.specs.Scanning as scanning;
+ghost use Rattle.rj_settings.specs.Internal.Scanning as scanning;
 ghost use Rattle.rj_settings.specs.Words.{text_of};
 
 use rj_condition::{Name, Word, quoted};

@@ -2,9 +2,9 @@
 
 ghost use Rattle.std.specs.Prelude.{◌≡◌, IfOk, List, ℕ, Option, MatchOption, Some};
 ghost use Rattle.rj_columns.specs.Names.{is_name};
-ghost use Rattle.rj_condition.specs.Scanning.{view};
+ghost use Rattle.rj_condition.specs.Internal.Scanning.{view};
 ghost use Rattle.rj_settings.specs.declared.choice.SelectedColumn.{SelectedColumn};
-ghost use Rattle.rj_settings.specs.Scanning as scanning;
+ghost use Rattle.rj_settings.specs.Internal.Scanning as scanning;
 ghost use Rattle.rj_settings.specs.Selected.{BeginsSelected, AreSelected, IsSelectList};
 ghost use Rattle.rj_settings.specs.Selected as selected;
 ghost use Rattle.rj_settings.specs.Words.{text_of};

@@ -4,7 +4,7 @@ ghost use Rattle.std.specs.Prelude.{◌≡◌, Bool, IfOk};
 ghost use Rattle.csv.specs.Reading.{records};
 ghost use Rattle.rj_csv_io.specs.StrictReading.{config_of};
 ghost use Rattle.rj_shards.specs.Texts.{reading_of_piece};
-ghost use Rattle.rj_shards.specs.Underway.{ReadsOn, SplitsAs};
+ghost use Rattle.rj_shards.specs.Internal.Underway.{ReadsOn, SplitsAs};
 
 use rj_csv_io::Header;
 use rj_csv_io::strict::Delimiter;

@@ -9,7 +9,7 @@ ghost use Rattle.rj_csv_io.specs.Typed.{null_texts};
 ghost use Rattle.rj_shards.specs.Divisions.{counts_after, dividing, table_begun, written_null};
 ghost use Rattle.rj_shards.specs.Readings.{IsHeaderRefusal, reads_after};
 ghost use Rattle.rj_shards.specs.Texts.{HaveFirstRows, IsDivisionFault, IsTextDivided};
-ghost use Rattle.rj_shards.specs.Underway.{Beginning, IsUnderway};
+ghost use Rattle.rj_shards.specs.Internal.Underway.{Beginning, IsUnderway};
 ghost use Rattle.rj_shards.specs.declared.division.reading.Reading.{Reading};
 
 use crate::division::next::{drop_front, next_piece};

@@ -1,6 +1,6 @@
 use Rattle.std.proofs.Common.{map, arith}
 use Rattle.rj_columns.specs.Contents.{content_of}
-use Rattle.rj_columns.specs.Stores.{decimal_content}
+use Rattle.rj_columns.specs.Internal.Stores.{decimal_content}
 use Rattle.rj_columns.proofs.CellFacts.{cells-start, cells-more}
 use Rattle.rj_columns.proofs.column.decimal_cells.Goals as goal
 

@@ -1,6 +1,6 @@
 use Rattle.std.proofs.Common.{map, arith}
 use Rattle.rj_columns.specs.Contents.{content_of}
-use Rattle.rj_columns.specs.Stores.{number_content}
+use Rattle.rj_columns.specs.Internal.Stores.{number_content}
 use Rattle.rj_columns.proofs.CellFacts.{cells-start, cells-more}
 use Rattle.rj_columns.proofs.column.int_cells.Goals as goal
 

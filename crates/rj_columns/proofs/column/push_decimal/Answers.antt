@@ -2,7 +2,7 @@ use Rattle.std.proofs.Common.{rules, ◌≡◌, ◌++◌, ◌∷◌, [], List, �
 use Rattle.std.proofs.lemmas.List.{map-append}
 use Rattle.std.proofs.lemmas.Result.{on_ok_weaker}
 use Rattle.rj_columns.specs.Contents.{decimal}
-use Rattle.rj_columns.specs.Stores.{decimal_content}
+use Rattle.rj_columns.specs.Internal.Stores.{decimal_content}
 use Rattle.rj_columns.proofs.LimitFacts.{decimal_limits}
 use Rattle.rj_columns.proofs.column.push_decimal.Goals as goal
 

@@ -1,7 +1,7 @@
 use Rattle.std.proofs.Common.{map, arith}
 use Rattle.std.specs.Option.{option_copied}
 use Rattle.rj_columns.specs.Contents.{content_of}
-use Rattle.rj_columns.specs.Stores.{text_content}
+use Rattle.rj_columns.specs.Internal.Stores.{text_content}
 use Rattle.rj_columns.proofs.CellFacts.{cells-start, cells-more}
 use Rattle.rj_columns.proofs.column.text_cells.Goals as goal
 

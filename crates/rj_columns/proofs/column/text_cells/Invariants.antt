@@ -1,7 +1,7 @@
 use Rattle.std.proofs.Common.{◌≡◌, ◌≤◌, ◌++◌, map}
 use Rattle.std.specs.Prelude.{slice_range}
 use Rattle.rj_columns.specs.Contents.{cells_of}
-use Rattle.rj_columns.specs.Stores.{text_content}
+use Rattle.rj_columns.specs.Internal.Stores.{text_content}
 use Rattle.rj_columns.proofs.column.text_cells.Given as goal
 
 abbrev pub invariant-loop-row : goal.invariant-loop-row

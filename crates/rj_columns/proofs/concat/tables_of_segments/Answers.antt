@@ -2,8 +2,8 @@ use Rattle.std.proofs.Common.{◌≡◌, ◌∙◌, ◌++◌, ◌∷◌, [], map
 use Rattle.std.specs.Prelude.{All}
 use Rattle.std.specs.Vec.Iter.{into_iter_items}
 use Rattle.std.proofs.lemmas.List.Elements.{All-tail}
-use Rattle.rj_columns.specs.Placed.{segments_in}
-use Rattle.rj_columns.specs.Segments.{AreSegments, table_in}
+use Rattle.rj_columns.specs.Internal.Placed.{segments_in}
+use Rattle.rj_columns.specs.Internal.Segments.{AreSegments, table_in}
 use Rattle.rj_columns.proofs.ConcatFacts.{made-more}
 use Rattle.rj_columns.proofs.concat.tables_of_segments.Goals as goal
 

@@ -5,7 +5,7 @@ use Rattle.std.proofs.lemmas.Bool.Decides.{Decides-eqb, Decides-int_eq, same_fro
 use mir.Val.{SFits, of_z, to_z}
 use Rattle.rj_columns.specs.Contents.{Content, nothing, whole}
 use Rattle.rj_columns.specs.Compare.{are_equal}
-use Rattle.rj_columns.specs.Stores.{number_content}
+use Rattle.rj_columns.specs.Internal.Stores.{number_content}
 use Rattle.rj_columns.proofs.CompareFacts.{are_equal-whole, are_equal-symmetric}
 use Rattle.rj_columns.proofs.HashFacts.{shown-at}
 use Rattle.rj_columns.proofs.equality.are_same_ints.Goals as goal

@@ -1,7 +1,7 @@
 use Rattle.std.proofs.Common.{◌-◌, None, map, get_or, ap, sym, subst, ◌∙◌}
 use Rattle.std.proofs.lemmas.List.{length-map}
 use Rattle.rj_columns.specs.Contents.{IsInLimits, nothing}
-use Rattle.rj_columns.specs.Stores.{decimal_content}
+use Rattle.rj_columns.specs.Internal.Stores.{decimal_content}
 use Rattle.rj_columns.proofs.HashFacts.{inside, Taking-none, Taking-more, Taking-all, shown-at}
 use Rattle.rj_columns.proofs.hashing.hash_decimals.Goals as goal
 

@@ -1,6 +1,6 @@
 use Rattle.std.proofs.Common.{◌-◌, map, get_or}
 use Rattle.rj_columns.specs.Contents.{nothing}
-use Rattle.rj_columns.specs.Stores.{decimal_content}
+use Rattle.rj_columns.specs.Internal.Stores.{decimal_content}
 use Rattle.rj_columns.proofs.HashFacts.{Taking}
 use Rattle.rj_columns.proofs.hashing.hash_decimals.Given as goal
 

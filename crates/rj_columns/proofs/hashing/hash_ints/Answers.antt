@@ -1,6 +1,6 @@
 use Rattle.std.proofs.Common.{◌-◌, None, map, get_or, ap, sym, ◌∙◌}
 use Rattle.rj_columns.specs.Contents.{nothing}
-use Rattle.rj_columns.specs.Stores.{number_content}
+use Rattle.rj_columns.specs.Internal.Stores.{number_content}
 use Rattle.rj_columns.proofs.HashFacts.{inside, Taking-none, Taking-more, Taking-all, shown-at}
 use Rattle.rj_columns.proofs.hashing.hash_ints.Goals as goal
 

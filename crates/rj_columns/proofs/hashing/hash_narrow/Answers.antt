@@ -4,7 +4,7 @@ use Rattle.std.proofs.lemmas.List.{get_or-map, length-map}
 use lib.IntN.{pos}
 use mir.Val.{SFits}
 use Rattle.rj_columns.specs.Contents.{nothing, whole}
-use Rattle.rj_columns.specs.Stores.{number_content}
+use Rattle.rj_columns.specs.Internal.Stores.{number_content}
 use Rattle.rj_columns.proofs.HashFacts.{inside, Taking-none, Taking-more, Taking-all}
 use Rattle.rj_columns.proofs.hashing.hash_narrow.Goals as goal
 

@@ -1,7 +1,7 @@
 use Rattle.std.proofs.Common.{◌-◌, None, map, get_or, ap, sym, ◌∙◌}
 use Rattle.std.specs.Option.{option_copied}
 use Rattle.rj_columns.specs.Contents.{nothing}
-use Rattle.rj_columns.specs.Stores.{text_content}
+use Rattle.rj_columns.specs.Internal.Stores.{text_content}
 use Rattle.rj_columns.proofs.HashFacts.{inside, Taking-none, Taking-more, Taking-all, shown-at}
 use Rattle.rj_columns.proofs.hashing.hash_texts.Goals as goal
 

@@ -1,6 +1,6 @@
 use Rattle.std.proofs.Common.{◌-◌, Some, map, get_or}
 use Rattle.rj_columns.specs.Contents.{nothing}
-use Rattle.rj_columns.specs.Stores.{number_content}
+use Rattle.rj_columns.specs.Internal.Stores.{number_content}
 use Rattle.rj_columns.proofs.HashFacts.{Taking}
 use Rattle.rj_columns.proofs.hashing.hash_wide.Given as goal
 

@@ -1,5 +1,5 @@
 use Rattle.std.proofs.Common.{◌≡◌, map, take}
-use Rattle.rj_columns.specs.Columns.{AreFull}
+use Rattle.rj_columns.specs.Internal.Columns.{AreFull}
 use Rattle.rj_columns.proofs.segment_builder.empty_columns.Given as goal
 
 abbrev pub invariant-loop-kind : goal.invariant-loop-kind

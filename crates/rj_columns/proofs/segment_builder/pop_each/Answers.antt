@@ -1,5 +1,5 @@
 use Rattle.std.proofs.Common.{arith, sym}
-use Rattle.rj_columns.specs.Columns.{without_last}
+use Rattle.rj_columns.specs.Internal.Columns.{without_last}
 use Rattle.rj_columns.proofs.PushFacts.{changed-none, changed-step}
 use Rattle.rj_columns.proofs.segment_builder.pop_each.Goals as goal
 

@@ -4,7 +4,7 @@ use Rattle.std.proofs.Math.Seq.{take-suc}
 use Rattle.rj_columns.specs.declared.cell.Cell.{Cell}
 use Rattle.rj_columns.specs.declared.cell.Cell.TheVariants.{Null}
 use Rattle.rj_columns.specs.Contents.{content_of, nothing}
-use Rattle.rj_columns.specs.Columns.{ColumnValue, grown_by}
+use Rattle.rj_columns.specs.Internal.Columns.{ColumnValue, grown_by}
 use Rattle.rj_columns.specs.Tables.{FitsAt, FitsTypes}
 use Rattle.rj_columns.proofs.RowFacts.{FitsTypes-length, FitsTypes-at, FitsAt-type}
 use Rattle.rj_columns.proofs.PushFacts.{length-grown_by, grown_by-kinds, grown_by-none, grown_by-step, without_last-grown}

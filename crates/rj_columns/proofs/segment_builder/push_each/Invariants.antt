@@ -1,6 +1,6 @@
 use Rattle.std.proofs.Common.{◌≡◌, map, take, length}
 use Rattle.rj_columns.specs.Contents.{content_of}
-use Rattle.rj_columns.specs.Columns.{grown_by}
+use Rattle.rj_columns.specs.Internal.Columns.{grown_by}
 use Rattle.rj_columns.proofs.segment_builder.push_each.Given as goal
 
 abbrev pub invariant-loop-i : goal.invariant-loop-i

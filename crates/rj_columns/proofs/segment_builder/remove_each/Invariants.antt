@@ -1,5 +1,5 @@
 use Rattle.std.proofs.Common.{◌≡◌}
-use Rattle.rj_columns.specs.Columns.{changed, without}
+use Rattle.rj_columns.specs.Internal.Columns.{changed, without}
 use Rattle.rj_columns.proofs.segment_builder.remove_each.Given as goal
 
 abbrev pub invariant-loop-i : goal.invariant-loop-i

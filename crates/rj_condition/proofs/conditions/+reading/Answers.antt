@@ -1,7 +1,7 @@
 use Rattle.std.proofs.Common.{◌+◌, ◌-◌, List, ap, sym, ◌∙◌}
 use Rattle.rj_condition.specs.declared.token.Keyword.TheVariants as keyword
 use Rattle.rj_condition.specs.declared.tree.Condition.{Condition}
-use Rattle.rj_condition.specs.Reading.{separated, after, factor_at, term_at}
+use Rattle.rj_condition.specs.Internal.Reading.{separated, after, factor_at, term_at}
 use Rattle.rj_condition.proofs.Turns.{separated_more}
 use Rattle.rj_condition.proofs.conditions.+reading.Goals as goal
 

@@ -1,6 +1,6 @@
 use Rattle.std.proofs.Common.{◌≡◌, ◌+◌, ◌-◌, ◌*◌}
 use Rattle.rj_condition.specs.declared.token.Keyword.TheVariants as keyword
-use Rattle.rj_condition.specs.Reading.{separated, after, factor_at, term_at, factors_at, terms_at}
+use Rattle.rj_condition.specs.Internal.Reading.{separated, after, factor_at, term_at, factors_at, terms_at}
 use Rattle.rj_condition.proofs.conditions.+reading.Given as goal
 
 abbrev pub decreases-factor : goal.decreases-factor

@@ -1,7 +1,7 @@
 use Rattle.std.proofs.Common.{◌≡◌, ◌++◌, ◌∙◌, ap, sym, arith, length, refl}
 use Rattle.std.proofs.Math.Facts.{to_z-of_z}
 use Rattle.std.specs.Str.Parse.{without_leading_sign, signed_digits_value}
-use Rattle.rj_condition.specs.Scanning.{is_integer}
+use Rattle.rj_condition.specs.Internal.Scanning.{is_integer}
 use Rattle.rj_condition.proofs.Integers.{parsed-ok, parsed-err}
 use Rattle.rj_condition.proofs.DecimalParts.{parts_ok, parts_err}
 use Rattle.rj_condition.proofs.lexer.decimal_of_parts.Goals as goal

@@ -6,7 +6,7 @@ use Rattle.rj_condition.specs.Tokens.{is_blank}
 use Rattle.rj_condition.specs.Lexing.{Lexes}
 use Rattle.rj_condition.specs.Refusals.{BeginAt}
 use Rattle.rj_condition.specs.Refusals as refusals
-use Rattle.rj_condition.specs.Scanning.{view, token_at}
+use Rattle.rj_condition.specs.Internal.Scanning.{view, token_at}
 use Rattle.rj_condition.proofs.Lexemes.{blank_begun, blank_step, token_begun, token_step, end_step, shorter, nothing_begun, nothing_step, none_after, first_of, first_byte, empty_of}
 use Rattle.rj_condition.proofs.lexer.lex.Goals as goal
 

@@ -1,7 +1,7 @@
 use Rattle.std.proofs.Common.{◌≡◌, length}
 use Rattle.std.specs.Prelude.{string_bytes, IsUtf8}
-use Rattle.rj_condition.specs.Scanning.{in_front}
-use Rattle.rj_condition.specs.Scanning as scanning
+use Rattle.rj_condition.specs.Internal.Scanning.{in_front}
+use Rattle.rj_condition.specs.Internal.Scanning as scanning
 use Rattle.rj_condition.proofs.lexer.quoted.Given as goal
 
 abbrev pub decreases-loop-found : goal.decreases-loop-found

@@ -1,6 +1,6 @@
 use Rattle.std.proofs.Common.{◌≡◌, ◌≤◌, ◌∙◌, Err, ap, sym, arith, length, false}
 use Rattle.rj_condition.specs.Nesting.{is_deep}
-use Rattle.rj_condition.specs.Reading.{clause_at}
+use Rattle.rj_condition.specs.Internal.Reading.{clause_at}
 use Rattle.rj_condition.proofs.Answer.{found, left_within, not_found, stop_byte}
 use Rattle.rj_condition.proofs.parsing.read.Goals as goal
 

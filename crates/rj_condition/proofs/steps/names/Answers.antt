@@ -1,7 +1,7 @@
 use Rattle.std.proofs.Common.{◌+◌, ◌-◌, List, ap, sym, ◌∙◌, length}
 use Rattle.rj_condition.specs.declared.token.Sign.TheVariants as sign
 use Rattle.rj_condition.specs.declared.tree.Name.{Name}
-use Rattle.rj_condition.specs.Reading.{separated, behind, name_at}
+use Rattle.rj_condition.specs.Internal.Reading.{separated, behind, name_at}
 use Rattle.rj_condition.proofs.Turns.{separated_more}
 use Rattle.rj_condition.proofs.steps.names.Goals as goal
 

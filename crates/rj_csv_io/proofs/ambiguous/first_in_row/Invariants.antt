@@ -2,7 +2,7 @@ use Rattle.std.proofs.Common.{◌≡◌, ◌-◌, ◌<◌, ℕ, [], length, fals
 use Rattle.std.specs.Prelude.{slice_index_or}
 use Rattle.rj_columns.specs.Tables.{cell_in}
 use Rattle.rj_csv_io.specs.Ambiguous.{is_ambiguous}
-use Rattle.rj_csv_io.specs.Blocks.{offset}
+use Rattle.rj_csv_io.specs.Internal.Blocks.{offset}
 use Rattle.rj_csv_io.proofs.ambiguous.first_in_row.Given as goal
 
 abbrev pub invariant-loop-col : goal.invariant-loop-col

@@ -1,6 +1,6 @@
 use Rattle.std.proofs.Common.{◌≡◌, ◌-◌, map}
 use Rattle.rj_columns.specs.Contents.{content_of}
-use Rattle.rj_csv_io.specs.Blocks.{block_of}
+use Rattle.rj_csv_io.specs.Internal.Blocks.{block_of}
 use Rattle.rj_csv_io.proofs.block.gather.Given as goal
 
 abbrev pub invariant-loop-col : goal.invariant-loop-col

@@ -1,6 +1,6 @@
 use Rattle.std.proofs.Common.{◌≡◌, ◌-◌, List, ℕ, [], map, take, length}
 use Rattle.std.specs.Prelude.{slice_index_or}
-use Rattle.rj_csv_io.specs.Blocks.{offset}
+use Rattle.rj_csv_io.specs.Internal.Blocks.{offset}
 use Rattle.rj_csv_io.specs.Shown.{shown}
 use Rattle.rj_csv_io.specs.Written.{HasWritten}
 use Rattle.rj_csv_io.proofs.range.write_row.Given as goal

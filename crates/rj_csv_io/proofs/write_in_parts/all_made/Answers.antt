@@ -1,7 +1,7 @@
 use Rattle.std.proofs.Common.{◌≡◌, ◌∙◌, ◌<◌, ◌≤◌, ◌+◌, Ok, arith, sym, ap, refl, length, drop, rules}
 use Rattle.std.proofs.lemmas.List.{drop-drop}
 use Rattle.rj_csv_io.specs.Shown.{range_text}
-use Rattle.rj_csv_io.specs.RowParts.{part_start}
+use Rattle.rj_csv_io.specs.Internal.RowParts.{part_start}
 use Rattle.rj_csv_io.proofs.RangeFacts.{range-none, range-join, range-all}
 use Rattle.rj_csv_io.proofs.RowPartFacts.{concat-joined, head-at, start-none, start-order, start-past}
 use Rattle.rj_csv_io.proofs.write_in_parts.all_made.Goals as goal

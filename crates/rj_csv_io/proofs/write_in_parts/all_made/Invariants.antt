@@ -1,6 +1,6 @@
 use Rattle.std.proofs.Common.{◌≡◌, length, map, drop}
 use Rattle.std.specs.List.{concat}
-use Rattle.rj_csv_io.specs.RowParts.{part_start}
+use Rattle.rj_csv_io.specs.Internal.RowParts.{part_start}
 use Rattle.rj_csv_io.specs.Shown.{range_text}
 use Rattle.rj_csv_io.proofs.write_in_parts.all_made.Given as goal
 

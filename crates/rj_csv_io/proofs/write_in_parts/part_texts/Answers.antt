@@ -1,5 +1,5 @@
 use Rattle.std.proofs.Common.{◌+◌, length, sym}
-use Rattle.rj_csv_io.specs.RowParts.{part_start}
+use Rattle.rj_csv_io.specs.Internal.RowParts.{part_start}
 use Rattle.rj_csv_io.proofs.RangeFacts.{range-past}
 use Rattle.rj_csv_io.proofs.RowPartFacts.{start-past}
 use Rattle.rj_csv_io.proofs.write_in_parts.part_texts.Goals as goal

@@ -1,7 +1,7 @@
 use Rattle.std.proofs.Common.{◌≡◌, ◌-◌, ◌++◌, map, take}
 use Rattle.rj_columns.specs.Contents.{content_of}
 use Rattle.rj_columns.specs.Tables.{cell_of}
-use Rattle.rj_engine.specs.Marks.{row_on}
+use Rattle.rj_engine.specs.Internal.Marks.{row_on}
 use Rattle.rj_engine.proofs.cells.add_side.Given as goal
 
 abbrev pub invariant-loop-pair : goal.invariant-loop-pair

@@ -1,7 +1,7 @@
 use Rattle.std.proofs.lemmas.Bool.{false≢true}
 use Rattle.std.proofs.Common.{◌≡◌, ◌==◌, ◌++◌, ◌∷◌, [], ℕ, true, false, map, take, slice_index_or, arith, subst}
 use Rattle.std.specs.List.{list_any}
-use Rattle.rj_engine.specs.Marks.{IsMarked, row_on}
+use Rattle.rj_engine.specs.Internal.Marks.{IsMarked, row_on}
 use Rattle.rj_engine.proofs.Distinct.{distinct_more, marked_is, stands_twice}
 use Rattle.rj_engine.proofs.Marked.{marked_more}
 use Rattle.rj_engine.proofs.expected.are_distinct.Goals as goal

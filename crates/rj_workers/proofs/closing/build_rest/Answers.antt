@@ -3,8 +3,8 @@ use Rattle.std.specs.Vec.Iter.{into_iter_items}
 use Rattle.rj_workers.specs.declared.ending.EndedPartition.{EndedPartition}
 use Rattle.rj_workers.specs.Posts.{Due}
 use Rattle.rj_workers.specs.Arrivals.{IsDelivered, due_lists, rows_by_sender}
-use Rattle.rj_workers.specs.Takes.{Builds, IsBuilding}
-use Rattle.rj_workers.specs.Ends.{IsSettled}
+use Rattle.rj_workers.specs.Internal.Takes.{Builds, IsBuilding}
+use Rattle.rj_workers.specs.Internal.Ends.{IsSettled}
 use Rattle.rj_workers.proofs.Posts.{next_is, next_len, next_at}
 use Rattle.rj_workers.proofs.Parts.{kept_each, kept_len}
 use Rattle.rj_workers.proofs.Wholes.{delivered_rows}

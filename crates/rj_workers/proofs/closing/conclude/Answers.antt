@@ -13,8 +13,8 @@ use Rattle.rj_workers.specs.declared.take.Taker.{Taker}
 use Rattle.rj_workers.specs.declared.take.OwnedPartition.{OwnedPartition}
 use Rattle.rj_workers.specs.Posts.{Due}
 use Rattle.rj_workers.specs.Arrivals.{AreOutboxes, stub_lists}
-use Rattle.rj_workers.specs.Takes.{Builds, IsOwnedOf}
-use Rattle.rj_workers.specs.Ends.{IsEnded}
+use Rattle.rj_workers.specs.Internal.Takes.{Builds, IsOwnedOf}
+use Rattle.rj_workers.specs.Internal.Ends.{IsEnded}
 use Rattle.rj_workers.proofs.Wholes.{seats_of_all, seats_are, seats_many, all_know_no_halt, scans_know_no_halt, takes_held, scans_outboxes, settled_of}
 use Rattle.rj_workers.proofs.closing.conclude.Goals as goal
 

@@ -2,7 +2,7 @@ use Rattle.std.proofs.Common.{◌∙◌, List, Vec, Global, arith}
 use Rattle.std.specs.Vec.Iter.{into_iter_items}
 use Rattle.rj_exchange.specs.declared.boxes.Exchange.{Exchange}
 use Rattle.rj_workers.specs.declared.take.OwnedPartition.{OwnedPartition}
-use Rattle.rj_workers.specs.Takes.{Builds}
+use Rattle.rj_workers.specs.Internal.Takes.{Builds}
 use Rattle.rj_workers.proofs.Placed.{group_of, slot_stays}
 use Rattle.rj_workers.proofs.Posts.{next_is, next_len}
 use Rattle.rj_workers.proofs.closing.place_all.Goals as goal

@@ -1,7 +1,7 @@
 use Rattle.std.proofs.Common.{◌≡◌, ◌++◌, ◌<◌, ℕ, length}
 use Rattle.std.specs.Prelude.{slice_index_or}
 use Rattle.std.specs.Vec.Iter.{into_iter_items, into_iter_len}
-use Rattle.rj_workers.specs.Takes.{IsSlot}
+use Rattle.rj_workers.specs.Internal.Takes.{IsSlot}
 use Rattle.rj_workers.proofs.closing.place_all.Given as goal
 
 abbrev pub invariant-loop-group : goal.invariant-loop-group

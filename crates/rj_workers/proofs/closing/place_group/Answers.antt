@@ -1,7 +1,7 @@
 use Rattle.std.proofs.Common.{List, Option, length, subst}
 use Rattle.std.specs.Vec.Iter.{into_iter_items}
 use Rattle.rj_workers.specs.declared.take.OwnedPartition.{OwnedPartition}
-use Rattle.rj_workers.specs.Ends.{ArePlaced}
+use Rattle.rj_workers.specs.Internal.Ends.{ArePlaced}
 use Rattle.rj_workers.proofs.Placed.{place_fits, placed_more}
 use Rattle.rj_workers.proofs.Posts.{next_is, next_len, nothing_left}
 use Rattle.rj_workers.proofs.closing.place_group.Goals as goal

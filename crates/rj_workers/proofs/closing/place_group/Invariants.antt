@@ -1,6 +1,6 @@
 use Rattle.std.proofs.Common.{◌≡◌, ◌++◌, length}
 use Rattle.std.specs.Vec.Iter.{into_iter_items, into_iter_len}
-use Rattle.rj_workers.specs.Ends.{ArePlaced}
+use Rattle.rj_workers.specs.Internal.Ends.{ArePlaced}
 use Rattle.rj_workers.proofs.closing.place_group.Given as goal
 
 abbrev pub invariant-loop-held : goal.invariant-loop-held

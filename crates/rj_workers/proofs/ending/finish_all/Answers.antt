@@ -10,8 +10,8 @@ use Rattle.rj_exchange.specs.Boxes.{AreStubsOf}
 use Rattle.rj_workers.specs.declared.take.OwnedPartition.{OwnedPartition}
 use Rattle.rj_workers.specs.declared.ending.EndedPartition.{EndedPartition}
 use Rattle.rj_workers.specs.Arrivals.{AreFirstOf, IsFilled, stub_lists}
-use Rattle.rj_workers.specs.Takes.{Builds, IsBuilding, IsOwnedOf, IsSlot}
-use Rattle.rj_workers.specs.Ends.{IsEnded}
+use Rattle.rj_workers.specs.Internal.Takes.{Builds, IsBuilding, IsOwnedOf, IsSlot}
+use Rattle.rj_workers.specs.Internal.Ends.{IsEnded}
 use Rattle.rj_workers.proofs.Posts.{next_is, next_len, nothing_left}
 use Rattle.rj_workers.proofs.Parts.{are_stubs, partition_of, left_room, left_more, more_each}
 use Rattle.rj_workers.proofs.ending.finish_all.Goals as goal

@@ -2,7 +2,7 @@ use Rattle.std.proofs.Common.{◌≡◌, ◌++◌, ◌+◌, ◌<◌, ◌*◌, �
 use Rattle.std.specs.Prelude.{slice_index_or}
 use Rattle.std.specs.Vec.Iter.{into_iter_items, into_iter_len}
 use Rattle.rj_workers.specs.Arrivals.{stub_lists}
-use Rattle.rj_workers.specs.Ends.{IsEnded}
+use Rattle.rj_workers.specs.Internal.Ends.{IsEnded}
 use Rattle.rj_workers.proofs.ending.finish_all.Given as goal
 
 abbrev pub invariant-loop-slot : goal.invariant-loop-slot

@@ -1,6 +1,6 @@
 use Rattle.rj_exchange.specs.Boxes.{sent_by_queue}
 use Rattle.rj_workers.specs.Posts.{PostsOrKeeps, IsLeft}
-use Rattle.rj_workers.specs.Scans.{IsScanner, SameScanner}
+use Rattle.rj_workers.specs.Internal.Scans.{IsScanner, SameScanner}
 use Rattle.rj_workers.proofs.post.post_all.Given as goal
 
 abbrev pub invariant-loop : goal.invariant-loop

@@ -1,7 +1,7 @@
 use Rattle.std.proofs.Common.{◌≡◌, length}
 use Rattle.rj_exchange.specs.Boxes.{sent_by_queue}
 use Rattle.rj_workers.specs.Posts.{PostsOrKeeps, IsLeft}
-use Rattle.rj_workers.specs.Scans.{IsScanner, SameScanner}
+use Rattle.rj_workers.specs.Internal.Scans.{IsScanner, SameScanner}
 use Rattle.rj_workers.proofs.post.post_round.Given as goal
 
 abbrev pub invariant-loop-at : goal.invariant-loop-at

@@ -1,7 +1,7 @@
 use Rattle.std.specs.Prelude.{Contains}
 use Rattle.rj_exchange.specs.Boxes.{sent_by_queue}
 use Rattle.rj_workers.specs.Posts.{PostsOrKeeps, to_post}
-use Rattle.rj_workers.specs.Scans.{IsScanner, SameScanner}
+use Rattle.rj_workers.specs.Internal.Scans.{IsScanner, SameScanner}
 use Rattle.rj_workers.proofs.post.post_some.Given as goal
 
 abbrev pub invariant-loop : goal.invariant-loop

@@ -5,7 +5,7 @@ use Rattle.rj_exchange.specs.declared.stripes.StripeSeat.{StripeSeat}
 use Rattle.rj_exchange.specs.Boxes.{sent_by_queue}
 use Rattle.rj_exchange.specs.Stripes.{held_by, Holds}
 use Rattle.rj_workers.specs.Posts.{Due, Posts, OnlyPlanned}
-use Rattle.rj_workers.specs.Scans.{StopsAt, HasPostedStripe}
+use Rattle.rj_workers.specs.Internal.Scans.{StopsAt, HasPostedStripe}
 use Rattle.rj_workers.proofs.HeldStripes.{held_before, kept_stripe}
 use Rattle.rj_workers.proofs.scan.scan.Goals as goal
 

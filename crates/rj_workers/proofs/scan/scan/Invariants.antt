@@ -1,7 +1,7 @@
 use Rattle.std.proofs.Common.{◌≡◌}
 use Rattle.rj_exchange.specs.Boxes.{sent_by_queue}
 use Rattle.rj_workers.specs.Posts.{OnlyPlanned}
-use Rattle.rj_workers.specs.Scans.{IsScanner, HasPostedHeld}
+use Rattle.rj_workers.specs.Internal.Scans.{IsScanner, HasPostedHeld}
 use Rattle.rj_workers.proofs.scan.scan.Given as goal
 
 abbrev pub invariant-loop : goal.invariant-loop

@@ -2,8 +2,8 @@ use Rattle.std.proofs.Common.{◌<◌, ℕ, List, length, get_or, ◌∙◌, sub
 use Rattle.rj_workers.specs.declared.scan.Scanner.{Scanner}
 use Rattle.rj_workers.specs.declared.shared.Shared.{Shared}
 use Rattle.rj_workers.specs.declared.take.Taker.{Taker}
-use Rattle.rj_workers.specs.Scans.{IsScan}
-use Rattle.rj_workers.specs.Takes.{IsTake}
+use Rattle.rj_workers.specs.Internal.Scans.{IsScan}
+use Rattle.rj_workers.specs.Internal.Takes.{IsTake}
 use Rattle.rj_workers.proofs.Parts.{through}
 use Rattle.rj_workers.proofs.scope.run_in.Goals as goal
 

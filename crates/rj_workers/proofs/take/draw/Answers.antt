@@ -2,7 +2,7 @@ use Rattle.std.proofs.Common.{◌≡◌, ◌+◌, [], ℕ, sym, subst, ap, ◌�
 use Rattle.std.specs.Prelude.{All}
 use Rattle.std.proofs.lemmas.List.Elements.{All-push}
 use Rattle.rj_exchange.specs.Ledgers.{opened}
-use Rattle.rj_workers.specs.Takes.{IsOwned}
+use Rattle.rj_workers.specs.Internal.Takes.{IsOwned}
 use Rattle.rj_workers.proofs.take.draw.Goals as goal
 
 pub returns-clause-all : goal.returns-clause-all

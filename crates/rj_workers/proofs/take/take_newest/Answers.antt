@@ -1,5 +1,5 @@
 use Rattle.std.proofs.lemmas.List.Elements.{All-set}
-use Rattle.rj_workers.specs.Takes.{IsOwned}
+use Rattle.rj_workers.specs.Internal.Takes.{IsOwned}
 use Rattle.rj_workers.proofs.take.take_newest.Goals as goal
 
 pub returns : goal.returns

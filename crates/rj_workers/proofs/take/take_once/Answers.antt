@@ -7,7 +7,7 @@ use Rattle.rj_exchange.proofs.EngineFacts.{after_all-append}
 use Rattle.rj_exchange.specs.Boxes.{taken_by_lane, taken_of}
 use Rattle.rj_exchange.specs.declared.boxes.Inbox.{Inbox}
 use Rattle.rj_workers.specs.Arrivals.{Takes, IsArrived}
-use Rattle.rj_workers.specs.Takes.{IsBuilding}
+use Rattle.rj_workers.specs.Internal.Takes.{IsBuilding}
 use Rattle.rj_workers.proofs.Takes.{arrived_more}
 use Rattle.rj_workers.proofs.Ledgers.{building_kept}
 use Rattle.rj_workers.proofs.take.take_once.Goals as goal

@@ -1,6 +1,6 @@
 use Rattle.std.proofs.Common.{◌≡◌, ◌++◌, length}
 use Rattle.std.specs.Vec.Iter.{into_iter_items, into_iter_len}
-use Rattle.rj_workers.specs.Scans.{scanner_draws, scanner_outboxes, scanner_seats}
+use Rattle.rj_workers.specs.Internal.Scans.{scanner_draws, scanner_outboxes, scanner_seats}
 use Rattle.rj_workers.proofs.workers.make_scanners.Given as goal
 
 abbrev pub invariant-loop-outbox : goal.invariant-loop-outbox

@@ -2,7 +2,7 @@ use Rattle.std.proofs.Common.{List}
 use Rattle.std.specs.Vec.Iter.{into_iter_items}
 use Rattle.rj_exchange.specs.declared.tickets.Seat.{Seat}
 use Rattle.rj_workers.specs.declared.take.Taker.{Taker}
-use Rattle.rj_workers.specs.Takes.{OwnsNothing}
+use Rattle.rj_workers.specs.Internal.Takes.{OwnsNothing}
 use Rattle.rj_workers.proofs.Dealt.{dealt_all, dealt_more}
 use Rattle.rj_workers.proofs.Parts.{all_kept}
 use Rattle.rj_workers.proofs.Posts.{next_is, next_len}

@@ -1,7 +1,7 @@
 use Rattle.std.proofs.Common.{◌≡◌, ◌++◌, length}
 use Rattle.std.specs.Prelude.{All}
 use Rattle.std.specs.Vec.Iter.{into_iter_items, into_iter_len}
-use Rattle.rj_workers.specs.Takes.{OwnsNothing, taker_done_seats, taker_draws, taker_seats}
+use Rattle.rj_workers.specs.Internal.Takes.{OwnsNothing, taker_done_seats, taker_draws, taker_seats}
 use Rattle.rj_workers.proofs.workers.make_takers.Given as goal
 
 abbrev pub invariant-loop-draws : goal.invariant-loop-draws

@@ -1,7 +1,7 @@
 use Rattle.std.proofs.Common.{◌≡◌, ◌∙◌, map, refl, sym, subst, Result, Ok, Err}
 use Rattle.std.specs.Prelude.{OnOk, OnErr}
 use Rattle.rj_columns.specs.Contents.{content_of}
-use Rattle.rj_columns.specs.Segments.{AreSegments}
+use Rattle.rj_columns.specs.Internal.Segments.{AreSegments}
 use Rattle.rj_columns.specs.Tables.{BuilderValue}
 use Rattle.rj_columns.proofs.SegmentFacts.{row-added}
 use Rattle.rj_columns.proofs.builder.TableBuilder.push_row.Goals as goal

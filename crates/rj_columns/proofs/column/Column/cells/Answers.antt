@@ -1,7 +1,7 @@
 use Rattle.std.proofs.Common.{rules}
 use Rattle.std.proofs.lemmas.Result.{on_ok_weaker}
 use Rattle.rj_columns.specs.Contents.{cells_of}
-use Rattle.rj_columns.specs.Stores.{number_content, decimal_content, text_content}
+use Rattle.rj_columns.specs.Internal.Stores.{number_content, decimal_content, text_content}
 use Rattle.rj_columns.proofs.CellFacts.{as-cells}
 use Rattle.rj_columns.proofs.column.Column.cells.Goals as goal
 

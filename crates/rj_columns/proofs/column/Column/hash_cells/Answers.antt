@@ -1,8 +1,8 @@
 use Rattle.std.proofs.Common.{◌≡◌, ap, sym, subst, ◌∙◌}
 use Rattle.std.specs.Prelude.{All}
-use Rattle.rj_columns.specs.Columns.{ColumnValue}
+use Rattle.rj_columns.specs.Internal.Columns.{ColumnValue}
 use Rattle.rj_columns.specs.Contents.{IsInLimits}
-use Rattle.rj_columns.specs.Stores.{column_of}
+use Rattle.rj_columns.specs.Internal.Stores.{column_of}
 use Rattle.rj_columns.specs.declared.column.Store.TheVariants.{Nums}
 use Rattle.rj_columns.proofs.HashFacts.{column-limits}
 use Rattle.rj_columns.proofs.column.Column.hash_cells.Goals as goal

@@ -1,7 +1,7 @@
 use Rattle.std.proofs.Common.{◌≡◌, ◌<◌, ℕ, List, length, arith, map, get_or}
 use Rattle.std.proofs.lemmas.List.{length-map, get_or-map}
 use Rattle.rj_columns.specs.Contents.{Content, nothing}
-use Rattle.rj_columns.specs.Columns.{ColumnValue, rows_of, row_at}
+use Rattle.rj_columns.specs.Internal.Columns.{ColumnValue, rows_of, row_at}
 use Rattle.rj_columns.proofs.RowFacts.{length-rows_of, rows_of-at, Filling-full, row_at-typed, FitsTypes-at}
 use Rattle.rj_columns.proofs.LimitFacts.{FitsAt-limits}
 use Rattle.rj_columns.proofs.segment.Segment.cell.Goals as goal

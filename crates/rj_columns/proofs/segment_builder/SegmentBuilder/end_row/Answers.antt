@@ -1,6 +1,6 @@
 use Rattle.std.proofs.Common.{◌≡◌, ◌∙◌, map, length, refl, sym, arith, ℕ, List, take}
 use Rattle.rj_columns.proofs.RowFacts.{length-rows_of, Filling-size, Filling-end, rows_of-end, row_at-typed}
-use Rattle.rj_columns.specs.Columns.{ColumnValue, Filling, row_at}
+use Rattle.rj_columns.specs.Internal.Columns.{ColumnValue, Filling, row_at}
 use Rattle.std.proofs.lemmas.List.{length-map}
 use Rattle.std.proofs.Math.Seq.{take-length}
 use Rattle.rj_columns.proofs.segment_builder.SegmentBuilder.end_row.Goals as goal

@@ -1,5 +1,5 @@
 use Rattle.std.proofs.Common.{◌≡◌, ◌∙◌, [], ℕ, List, take, sym, ap, length}
-use Rattle.rj_columns.specs.Columns.{ColumnValue, Filling, row_at}
+use Rattle.rj_columns.specs.Internal.Columns.{ColumnValue, Filling, row_at}
 use Rattle.rj_columns.specs.Tables.{BuilderValue}
 use Rattle.rj_columns.proofs.RowFacts.{Filling-size}
 use Rattle.rj_columns.proofs.segment_builder.SegmentBuilder.finish.Goals as goal

@@ -1,6 +1,6 @@
 use Rattle.std.proofs.Common.{rules, ◌≡◌, ◌∙◌, map, length, refl, ap, ℕ, List, slice_index_or, add-one, take}
 use Rattle.rj_columns.proofs.RowFacts.{Filling-size, grown, FitsAt-inside, FitsAt-type, grown-fills, grown-kinds, grown-length, grown-rows, grown-hand, grown-typed}
-use Rattle.rj_columns.specs.Columns.{ColumnValue, Filling, row_at}
+use Rattle.rj_columns.specs.Internal.Columns.{ColumnValue, Filling, row_at}
 use Rattle.rj_columns.specs.Contents.{Content, content_of}
 use Rattle.rj_columns.specs.Tables.{FitsAt}
 use Rattle.rj_columns.proofs.segment_builder.SegmentBuilder.push_cell.Goals as goal

@@ -1,7 +1,7 @@
 use Rattle.std.proofs.Common.{◌≡◌, ◌∙◌, ℕ, List, map, length, refl, sym, ap, arith}
 use Rattle.std.proofs.lemmas.List.{length-map}
 use Rattle.rj_columns.specs.Contents.{Content, content_of}
-use Rattle.rj_columns.specs.Columns.{ColumnValue, Filling, cut, changed, without, grown_by}
+use Rattle.rj_columns.specs.Internal.Columns.{ColumnValue, Filling, cut, changed, without, grown_by}
 use Rattle.rj_columns.specs.Tables.{FitsTypes}
 use Rattle.rj_columns.proofs.RowFacts.{length-rows_of, Filling-within, FitsTypes-length, length-cut, cut-kinds, cut-fills, cut-typed, cut-rows}
 use Rattle.rj_columns.proofs.PushFacts.{length-grown_by, grown_by-kinds, removed-grown, grown_by-fills, grown_by-rows, grown_by-typed}

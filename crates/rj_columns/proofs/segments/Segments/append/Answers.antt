@@ -1,6 +1,6 @@
 use Rattle.std.proofs.Common.{◌∙◌, ◌++◌, ap, sym}
 use Rattle.std.specs.Vec.Iter.{into_iter_items}
-use Rattle.rj_columns.specs.Placed.{segments_in}
+use Rattle.rj_columns.specs.Internal.Placed.{segments_in}
 use Rattle.rj_columns.proofs.SegmentFacts.{next-fits}
 use Rattle.rj_columns.proofs.segments.Segments.append.Goals as goal
 

@@ -1,6 +1,6 @@
 use Rattle.std.proofs.Common.{◌≡◌, ◌++◌}
 use Rattle.std.specs.Vec.Iter.{into_iter_items, into_iter_len}
-use Rattle.rj_columns.specs.Placed.{segments_in}
+use Rattle.rj_columns.specs.Internal.Placed.{segments_in}
 use Rattle.rj_columns.proofs.segments.Segments.append.Given as goal
 
 abbrev pub invariant-loop-next : goal.invariant-loop-next

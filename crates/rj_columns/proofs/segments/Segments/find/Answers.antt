@@ -1,5 +1,5 @@
 use Rattle.std.proofs.Common.{◌<◌, suc, arith}
-use Rattle.rj_columns.specs.Placed.{rows_before}
+use Rattle.rj_columns.specs.Internal.Placed.{rows_before}
 use Rattle.rj_columns.proofs.PlacedFacts.{end-of, found}
 use Rattle.rj_columns.proofs.segments.Segments.find.Goals as goal
 

@@ -1,5 +1,5 @@
 use Rattle.std.proofs.Common.{◌<◌, ◌≤◌, ◌-◌, length}
-use Rattle.rj_columns.specs.Placed.{rows_before}
+use Rattle.rj_columns.specs.Internal.Placed.{rows_before}
 use Rattle.rj_columns.proofs.segments.Segments.find.Given as goal
 
 abbrev pub invariant-loop-at : goal.invariant-loop-at

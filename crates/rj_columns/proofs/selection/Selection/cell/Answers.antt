@@ -1,6 +1,6 @@
 use Rattle.std.proofs.Common.{◌≡◌, ◌<◌, ℕ, List, length, map, arith}
 use Rattle.std.proofs.lemmas.List.{length-map}
-use Rattle.rj_columns.specs.Columns.{ColumnValue, IsTyped}
+use Rattle.rj_columns.specs.Internal.Columns.{ColumnValue, IsTyped}
 use Rattle.rj_columns.proofs.RowFacts.{typed-at}
 use Rattle.rj_columns.proofs.LimitFacts.{FitsType-limits}
 use Rattle.rj_columns.proofs.selection.Selection.cell.Goals as goal

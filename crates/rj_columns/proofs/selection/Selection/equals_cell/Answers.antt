@@ -1,6 +1,6 @@
 use Rattle.std.proofs.Common.{◌≡◌, ◌<◌, ◌∙◌, ◌-◌, [], ℕ, List, length, map, ap, sym, get_or, arith}
 use Rattle.std.proofs.lemmas.List.{length-map, get_or-map}
-use Rattle.rj_columns.specs.Columns.{ColumnValue}
+use Rattle.rj_columns.specs.Internal.Columns.{ColumnValue}
 use Rattle.rj_columns.specs.Contents.{nothing}
 use Rattle.rj_columns.specs.Compare.{are_equal}
 use Rattle.rj_columns.specs.Tables.{cell_of}

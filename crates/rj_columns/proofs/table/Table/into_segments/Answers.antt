@@ -1,6 +1,6 @@
 use Rattle.std.proofs.Common.{◌≡◌, ◌++◌, ◌∷◌, [], refl, ap}
 use Rattle.rj_columns.specs.Tables.{rows_of_all}
-use Rattle.rj_columns.specs.Segments.{table_in}
+use Rattle.rj_columns.specs.Internal.Segments.{table_in}
 use Rattle.rj_columns.proofs.ConcatFacts.{same-parted, rows-parted}
 use Rattle.rj_columns.proofs.SegmentFacts.{each-alone, last-alone}
 use Rattle.rj_columns.proofs.table.Table.into_segments.Goals as goal

@@ -1,6 +1,6 @@
 use Rattle.std.proofs.Common.{◌≡◌, map, take}
 use Rattle.std.specs.Prelude.{All}
-use Rattle.rj_columns.specs.Columns.{IsTyped}
+use Rattle.rj_columns.specs.Internal.Columns.{IsTyped}
 use Rattle.rj_columns.specs.Tables.{cell_of}
 use Rattle.rj_columns.proofs.table.Table.select.Given as goal
 

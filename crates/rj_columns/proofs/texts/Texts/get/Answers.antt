@@ -1,5 +1,5 @@
 use Rattle.std.proofs.Common.{◌∙◌, arith, sym}
-use Rattle.rj_columns.specs.Packed.{texts_from}
+use Rattle.rj_columns.specs.Internal.Packed.{texts_from}
 use Rattle.rj_columns.proofs.PackFacts.{bounds, texts-utf8}
 use Rattle.rj_columns.proofs.TextFacts.{row-inside, shown-null, shown-text}
 use Rattle.rj_columns.proofs.texts.Texts.get.Goals as goal

@@ -1,5 +1,5 @@
 use Rattle.std.proofs.Common.{rules, ◌≡◌, length}
-use Rattle.rj_columns.specs.Nulls.{marked_at}
+use Rattle.rj_columns.specs.Internal.Nulls.{marked_at}
 use Rattle.rj_columns.proofs.TextFacts.{null-packed, null-shown}
 use Rattle.rj_columns.proofs.texts.Texts.push_null.Goals as goal
 

@@ -1,6 +1,6 @@
 use Rattle.std.proofs.Common.{rules, ◌≡◌, ◌∙◌, ◌<◌, ◌≤◌, length}
 use Rattle.std.specs.List.{remove_range}
-use Rattle.rj_columns.specs.Packed.{texts_from}
+use Rattle.rj_columns.specs.Internal.Packed.{texts_from}
 use Rattle.rj_columns.proofs.PackFacts.{bounds}
 use Rattle.rj_columns.proofs.TextFacts.{removed-packed, removed-shown, unremoved}
 use Rattle.rj_columns.proofs.texts.Texts.remove.Goals as goal

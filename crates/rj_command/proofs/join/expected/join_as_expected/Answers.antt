@@ -1,5 +1,5 @@
 use Rattle.std.proofs.Common.{subst, sym}
-use Rattle.rj_command.specs.Prepared.{IsOutcome}
+use Rattle.rj_command.specs.Internal.Prepared.{IsOutcome}
 use Rattle.rj_command.proofs.PreparedFacts.{forgotten}
 use Rattle.rj_command.proofs.join.expected.join_as_expected.Goals as goal
 

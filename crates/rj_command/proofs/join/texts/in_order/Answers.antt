@@ -1,7 +1,7 @@
 use Rattle.std.proofs.Common.{◌≡◌, ◌∷◌, ◌+◌, ◌<◌, ◌∙◌, ap, arith, drop, get_or, length, set, subst, sym}
 use Rattle.std.proofs.lemmas.List.{drop_more, get_or_default, length-set}
 use Rattle.rj_engine.specs.declared.runs.Run.{Run}
-use Rattle.rj_command.specs.Texts.{AreCounted, AreTextsOf}
+use Rattle.rj_command.specs.Internal.Texts.{AreCounted, AreTextsOf}
 use Rattle.rj_command.proofs.TextFacts.{left-counted, left-texts, next-there, whole-more}
 use Rattle.rj_command.proofs.join.texts.in_order.Goals as goal
 

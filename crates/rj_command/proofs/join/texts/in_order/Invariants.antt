@@ -1,7 +1,7 @@
 use Rattle.std.proofs.Common.{◌≡◌, ℕ, List, drop, length, map, take}
 use Rattle.std.specs.List.{concat}
 use Rattle.rj_engine.specs.declared.runs.Run.{Run}
-use Rattle.rj_command.specs.Texts.{AreCounted, AreTextsOf, whole_text}
+use Rattle.rj_command.specs.Internal.Texts.{AreCounted, AreTextsOf, whole_text}
 use Rattle.rj_command.proofs.join.texts.in_order.Given as goal
 
 abbrev pub invariant-loop-run : goal.invariant-loop-run

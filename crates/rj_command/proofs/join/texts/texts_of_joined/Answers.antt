@@ -3,7 +3,7 @@ use Rattle.std.specs.List.{concat}
 use Rattle.std.proofs.lemmas.Result.{IfOk-weaker}
 use Rattle.rj_columns.specs.Tables.{TableValue}
 use Rattle.rj_engine.specs.Shown.{IsRunOf}
-use Rattle.rj_command.specs.Texts.{AreWithin, no_table, text_in}
+use Rattle.rj_command.specs.Internal.Texts.{AreWithin, no_table, text_in}
 use Rattle.rj_command.proofs.TextFacts.{all-within, rows_of, whole-texts}
 use Rattle.std.specs.Prelude.{slice_index_or}
 use Rattle.rj_command.proofs.join.texts.texts_of_joined.Goals as goal

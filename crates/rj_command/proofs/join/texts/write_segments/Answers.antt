@@ -4,7 +4,7 @@ use Rattle.std.specs.List.{concat}
 use Rattle.std.specs.Io.KnownBytes.{Appends}
 use Rattle.csv.specs.Writing.{row_text}
 use Rattle.rj_csv_io.specs.Shown.{writer_of}
-use Rattle.rj_command.specs.Texts.{shown_cells}
+use Rattle.rj_command.specs.Internal.Texts.{shown_cells}
 use Rattle.rj_command.proofs.TextFacts.{table-text}
 use Rattle.rj_command.proofs.join.texts.write_segments.Goals as goal
 

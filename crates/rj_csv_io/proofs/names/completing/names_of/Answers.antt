@@ -1,6 +1,6 @@
 use Rattle.std.proofs.Common.{◌∙◌, ◌<◌, ◌++◌, ◌∷◌, [], ℕ, List, Bor, ap, arith, length, map, subst, sym, take}
 use Rattle.std.proofs.lemmas.List.{map-append, take_more}
-use Rattle.rj_csv_io.specs.NameColumns.{columns_in}
+use Rattle.rj_csv_io.specs.Internal.NameColumns.{columns_in}
 use Rattle.rj_csv_io.specs.Named as named
 use Rattle.rj_csv_io.proofs.NamingFacts.{name-at_place, names-size_in}
 use Rattle.rj_csv_io.proofs.names.completing.names_of.Goals as goal

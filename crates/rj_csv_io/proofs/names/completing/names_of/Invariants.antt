@@ -1,5 +1,5 @@
 use Rattle.std.proofs.Common.{◌≡◌, ℕ, List, Bor, length, map, take}
-use Rattle.rj_csv_io.specs.NameColumns.{columns_in}
+use Rattle.rj_csv_io.specs.Internal.NameColumns.{columns_in}
 use Rattle.rj_csv_io.specs.Named as named
 use Rattle.rj_csv_io.proofs.names.completing.names_of.Given as goal
 

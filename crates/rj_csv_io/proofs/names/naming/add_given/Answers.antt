@@ -2,7 +2,7 @@ use Rattle.std.proofs.Common.{◌∙◌, ◌++◌, ◌∷◌, [], ℕ, List, ap,
 use Rattle.std.proofs.Common.{append-nil}
 use Rattle.std.proofs.lemmas.List.{map-append}
 use Rattle.std.specs.Prelude.{string_bytes}
-use Rattle.rj_csv_io.specs.NameColumns.{column_in, told_of}
+use Rattle.rj_csv_io.specs.Internal.NameColumns.{column_in, told_of}
 use Rattle.rj_csv_io.specs.Named as names
 use Rattle.rj_csv_io.specs.declared.names.column.GivenName.{GivenName}
 use Rattle.rj_csv_io.specs.declared.names.column.NamedColumn.{NamedColumn}

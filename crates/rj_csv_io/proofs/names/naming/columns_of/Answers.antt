@@ -1,6 +1,6 @@
 use Rattle.std.proofs.Common.{◌≡◌, ◌∙◌, ◌<◌, ◌≤◌, ◌+◌, ◌++◌, ◌∷◌, [], ℕ, List, Bor, ap, arith, drop, get_or, length, map, subst, sym}
 use Rattle.std.proofs.lemmas.List.{length-append, length-map, map-append}
-use Rattle.rj_csv_io.specs.NameColumns.{column_in, columns_in}
+use Rattle.rj_csv_io.specs.Internal.NameColumns.{column_in, columns_in}
 use Rattle.rj_csv_io.specs.Named as names
 use Rattle.rj_csv_io.specs.declared.names.column.NamedColumn.{NamedColumn}
 use Rattle.rj_csv_io.proofs.NamingFacts.{columns-all, columns-more, fields-size, no_field}

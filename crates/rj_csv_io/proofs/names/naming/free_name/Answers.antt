@@ -1,6 +1,6 @@
 use Rattle.std.proofs.Common.{◌≡◌, ◌∙◌, ◌<◌, ◌+◌, ◌-◌, ◌++◌, ℕ, List, Bor, true, false, ap, arith, length, map, refl, sym}
 use Rattle.std.specs.Prelude.{string_bytes}
-use Rattle.rj_csv_io.specs.NameColumns.{columns_in}
+use Rattle.rj_csv_io.specs.Internal.NameColumns.{columns_in}
 use Rattle.rj_csv_io.specs.Named as names
 use Rattle.rj_csv_io.proofs.NamingFacts.{free-here, free-last, free-more, ok-weaker, taken-split}
 use Rattle.rj_csv_io.proofs.names.naming.free_name.Goals.{else-not-is_taken-via-then-not-is_taken+else-not-is_given, else-not-is_taken-via-else-not-is_taken}

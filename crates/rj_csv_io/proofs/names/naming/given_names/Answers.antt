@@ -1,6 +1,6 @@
 use Rattle.std.proofs.Common.{◌∙◌, ◌<◌, ◌≤◌, ◌+◌, ◌++◌, ◌∷◌, [], ℕ, List, ap, arith, drop, length, subst, sym}
 use Rattle.std.proofs.Common.{append-nil, append_assoc}
-use Rattle.rj_csv_io.specs.NameColumns.{column_in, columns_in, told_of}
+use Rattle.rj_csv_io.specs.Internal.NameColumns.{column_in, columns_in, told_of}
 use Rattle.rj_csv_io.specs.Named as names
 use Rattle.rj_csv_io.proofs.NamingFacts.{column-at_place, columns-size_in, given-all, given-more}
 use Rattle.rj_csv_io.proofs.names.naming.given_names.Goals as goal

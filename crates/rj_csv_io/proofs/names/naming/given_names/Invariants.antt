@@ -1,5 +1,5 @@
 use Rattle.std.proofs.Common.{◌≡◌, ◌+◌, ◌++◌, drop, length}
-use Rattle.rj_csv_io.specs.NameColumns.{columns_in, told_of}
+use Rattle.rj_csv_io.specs.Internal.NameColumns.{columns_in, told_of}
 use Rattle.rj_csv_io.specs.Named as named
 use Rattle.rj_csv_io.proofs.names.naming.given_names.Given as goal
 

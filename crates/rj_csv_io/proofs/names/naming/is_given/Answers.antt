@@ -1,6 +1,6 @@
 use Rattle.std.proofs.Common.{◌∙◌, ◌<◌, ℕ, true, false, ap, arith, length, subst, sym}
 use Rattle.std.specs.Str.{str_eq_ignore_ascii_case}
-use Rattle.rj_csv_io.specs.NameColumns.{columns_in}
+use Rattle.rj_csv_io.specs.Internal.NameColumns.{columns_in}
 use Rattle.rj_csv_io.specs.Named as named
 use Rattle.rj_csv_io.proofs.FreeFacts.{alike-decided}
 use Rattle.rj_csv_io.proofs.NamingFacts.{name-at_place, names-size_in, taken-found, taken-more}

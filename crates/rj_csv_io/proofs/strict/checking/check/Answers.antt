@@ -1,6 +1,6 @@
 use Rattle.std.proofs.Common.{ap, ◌∙◌, List, ℕ}
 use Rattle.rj_csv_io.specs.StrictReading.{body_of}
-use Rattle.rj_csv_io.specs.StrictSteps.{initial_standing, verdict}
+use Rattle.rj_csv_io.specs.Internal.StrictSteps.{initial_standing, verdict}
 use Rattle.rj_csv_io.proofs.Answering.{is-derived, has-fault, says-ok, says-err}
 use Rattle.rj_csv_io.proofs.Lawful.{lawful-is}
 use Rattle.rj_csv_io.proofs.strict.checking.check.Goals as goal

@@ -1,6 +1,6 @@
 use Rattle.std.proofs.Common.{◌<◌, ◌+◌, length, get_or, drop, sym, ◌∙◌, arith}
 use Rattle.std.proofs.lemmas.List.{at_drop_more, at_drop_all}
-use Rattle.rj_csv_io.specs.StrictSteps.{verdict}
+use Rattle.rj_csv_io.specs.Internal.StrictSteps.{verdict}
 use Rattle.rj_csv_io.proofs.StepFacts.{step-near, verdict-ok, verdict-err, verdict-end}
 use Rattle.rj_csv_io.proofs.strict.checking.check_bytes.Goals as goal
 

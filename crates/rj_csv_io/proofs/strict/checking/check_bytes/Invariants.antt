@@ -1,5 +1,5 @@
 use Rattle.std.proofs.Common.{◌≡◌, ◌+◌, ◌≤◌, drop}
-use Rattle.rj_csv_io.specs.StrictSteps.{initial_standing, verdict}
+use Rattle.rj_csv_io.specs.Internal.StrictSteps.{initial_standing, verdict}
 use Rattle.rj_csv_io.proofs.strict.checking.check_bytes.Given as goal
 
 abbrev pub invariant-loop-i : goal.invariant-loop-i

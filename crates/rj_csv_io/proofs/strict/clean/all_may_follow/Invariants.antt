@@ -1,5 +1,5 @@
 use Rattle.std.proofs.Common.{◌≡◌, false, true, take}
-use Rattle.rj_csv_io.specs.StrictWalk.{all_follow}
+use Rattle.rj_csv_io.specs.Internal.StrictWalk.{all_follow}
 use Rattle.rj_csv_io.proofs.strict.clean.all_may_follow.Given as goal
 
 abbrev pub invariant-loop-i : goal.invariant-loop-i

@@ -1,7 +1,7 @@
 use Rattle.std.proofs.Common.{◌≡◌, ℕ, ap, sym, ◌∙◌, rules, Some}
 use Rattle.std.proofs.lemmas.List.{nil_from_length}
 use Rattle.std.specs.Slice.Iter.{chunks_rest}
-use Rattle.rj_csv_io.specs.StrictWalk.{walk}
+use Rattle.rj_csv_io.specs.Internal.StrictWalk.{walk}
 use Rattle.rj_csv_io.specs.declared.strict.standing.Place.{Place}
 use Rattle.rj_csv_io.specs.declared.strict.standing.Place.TheVariants as place
 use Rattle.rj_csv_io.proofs.WalkFacts.{walk-none}

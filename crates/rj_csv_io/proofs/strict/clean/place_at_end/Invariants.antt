@@ -1,6 +1,6 @@
 use Rattle.std.proofs.Common.{◌≡◌}
 use Rattle.std.specs.Slice.Iter.{chunks_rest}
-use Rattle.rj_csv_io.specs.StrictWalk.{walk}
+use Rattle.rj_csv_io.specs.Internal.StrictWalk.{walk}
 use Rattle.rj_csv_io.specs.declared.strict.standing.Place.TheVariants as place
 use Rattle.rj_csv_io.proofs.strict.clean.place_at_end.Given as goal
 

@@ -1,7 +1,7 @@
 use Rattle.std.proofs.Common.{◌≡◌, ◌<◌, ◌+◌, ◌-◌, length, take, drop, refl, sym, ap, arith, ◌∙◌, Some}
 use Rattle.std.proofs.lemmas.Bool.{eqb-true}
 use Rattle.std.proofs.lemmas.List.{length-drop, take_rest, at_drop_all}
-use Rattle.rj_csv_io.specs.StrictWalk.{walk, over_quote}
+use Rattle.rj_csv_io.specs.Internal.StrictWalk.{walk, over_quote}
 use Rattle.rj_csv_io.specs.declared.strict.standing.Place.{Place}
 use Rattle.rj_csv_io.proofs.Slices.{rest-at}
 use Rattle.rj_csv_io.proofs.WalkFacts.{walk-none}

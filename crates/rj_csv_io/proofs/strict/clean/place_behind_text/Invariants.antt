@@ -1,5 +1,5 @@
 use Rattle.std.proofs.Common.{◌≡◌, ◌≤◌, length, drop}
-use Rattle.rj_csv_io.specs.StrictWalk.{walk}
+use Rattle.rj_csv_io.specs.Internal.StrictWalk.{walk}
 use Rattle.rj_csv_io.proofs.strict.clean.place_behind_text.Given as goal
 
 abbrev pub invariant-loop-turn : goal.invariant-loop-turn

@@ -1,6 +1,6 @@
 use Rattle.std.proofs.Common.{sym, ap, ◌∙◌, ◌≡◌, length, Some}
 use Rattle.std.proofs.lemmas.Bool.{eqb-true}
-use Rattle.rj_csv_io.specs.StrictWalk.{place_after, walk}
+use Rattle.rj_csv_io.specs.Internal.StrictWalk.{place_after, walk}
 use Rattle.rj_csv_io.specs.declared.strict.standing.Place.{Place}
 use Rattle.rj_csv_io.specs.declared.strict.standing.Place.TheVariants as place
 use Rattle.rj_csv_io.proofs.Lawful.{lawful-is}

@@ -1,6 +1,6 @@
 use Rattle.std.proofs.Common.{ℕ, ◌≡◌, ◌<◌, List, Bor, map, length, get_or, refl, ap, ◌∙◌, arith, [], Some, None}
 use Rattle.std.proofs.lemmas.List.{length-map}
-use Rattle.rj_csv_io.specs.StrictWalk.{walk}
+use Rattle.rj_csv_io.specs.Internal.StrictWalk.{walk}
 use Rattle.rj_csv_io.specs.declared.strict.standing.Place.{Place}
 use Rattle.rj_csv_io.specs.declared.strict.standing.Place.TheVariants as place
 use Rattle.rj_csv_io.proofs.WalkFacts.{walk-none}

@@ -1,6 +1,6 @@
 use Rattle.std.proofs.Common.{◌≡◌, ℕ, length, map, take, Some}
 use Rattle.std.specs.List.{concat}
-use Rattle.rj_csv_io.specs.StrictWalk.{AreWalked, walk}
+use Rattle.rj_csv_io.specs.Internal.StrictWalk.{AreWalked, walk}
 use Rattle.rj_csv_io.specs.declared.strict.standing.Place.TheVariants as place
 use Rattle.rj_csv_io.proofs.strict.parts.place_after_all.Given as goal
 

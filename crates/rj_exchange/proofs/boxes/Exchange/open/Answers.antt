@@ -5,7 +5,7 @@ use Rattle.rj_exchange.specs.declared.boxes.Stub.{Stub}
 use Rattle.rj_exchange.specs.declared.queue.Trace.{Trace}
 use Rattle.rj_exchange.specs.Passing.{taker, sender}
 use Rattle.rj_exchange.specs.Boxes.{Queue, IsEndOf}
-use Rattle.rj_exchange.specs.Opening.{place_of}
+use Rattle.rj_exchange.specs.Internal.Opening.{place_of}
 use Rattle.rj_exchange.proofs.Opening.{AreBoxes, AreFreshEnds, AreInboxes}
 use Rattle.rj_exchange.proofs.Stubs.{pick, row_fits}
 use Rattle.rj_exchange.proofs.Opening.{grows, ends_grow, inboxes_stay, inboxes_grow, fresh_untold}

@@ -6,7 +6,7 @@ use Rattle.rj_exchange.specs.declared.ledger.parcel.Parcel.{Parcel}
 use Rattle.rj_exchange.specs.declared.posted.Posted.{Posted}
 use Rattle.rj_exchange.specs.Passing.{Belongs, Interleaves}
 use Rattle.rj_exchange.specs.Boxes.{Queue, taken_of, heard_of}
-use Rattle.rj_exchange.specs.Ends.{IsTaker}
+use Rattle.rj_exchange.specs.Internal.Ends.{IsTaker}
 use Rattle.rj_exchange.proofs.Stubs.{knows_taker, all_sent, was, any_default, pick, row_fits, taker_self, get_or-map}
 use Rattle.rj_exchange.proofs.boxes.Inbox.finish.Goals as goal
 

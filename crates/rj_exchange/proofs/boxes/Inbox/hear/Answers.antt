@@ -2,7 +2,7 @@ use Rattle.std.proofs.Common.{◌*◌, ◌+◌, length, get_or, sym, refl, ap, s
 use Rattle.crossbeam_queue.specs.Passes.{view}
 use Rattle.rj_exchange.specs.declared.boxes.Stub.{Stub}
 use Rattle.rj_exchange.specs.Boxes.{where_at, IsStubOf}
-use Rattle.rj_exchange.specs.Ends.{IsGrown}
+use Rattle.rj_exchange.specs.Internal.Ends.{IsGrown}
 use Rattle.rj_exchange.proofs.Stubs.{stub_self}
 use Rattle.rj_exchange.proofs.Hearing.{Grows, counted, still_taken, heard_more, hears_on}
 use Rattle.rj_exchange.proofs.boxes.Inbox.hear.Goals as goal

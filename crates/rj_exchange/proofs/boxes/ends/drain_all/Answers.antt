@@ -5,7 +5,7 @@ use Rattle.crossbeam_queue.specs.Passes.{view, ruled_capacity}
 use Rattle.rj_exchange.specs.declared.boxes.Stub.{Stub}
 use Rattle.rj_exchange.specs.Passing.{Belongs, Interleaves}
 use Rattle.rj_exchange.specs.Boxes.{Queue, PostedVec, taken_of}
-use Rattle.rj_exchange.specs.Ends.{IsTaker, IsRoom}
+use Rattle.rj_exchange.specs.Internal.Ends.{IsTaker, IsRoom}
 use Rattle.rj_exchange.proofs.Stubs.{any_default}
 use Rattle.rj_exchange.proofs.boxes.ends.drain_all.Goals as goal
 

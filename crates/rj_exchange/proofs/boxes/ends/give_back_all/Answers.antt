@@ -3,7 +3,7 @@ use Rattle.std.specs.Vec.Iter.{into_iter_items}
 use Rattle.crossbeam_queue.specs.Passes.{view}
 use Rattle.rj_exchange.specs.declared.boxes.Stub.{Stub}
 use Rattle.rj_exchange.specs.Boxes.{where_at, IsStubOf}
-use Rattle.rj_exchange.specs.Ends.{Knows, known_of}
+use Rattle.rj_exchange.specs.Internal.Ends.{Knows, known_of}
 use Rattle.rj_exchange.proofs.Stubs.{any_default, knows_none, knows_taker, knows_more, stub_self, row_fits}
 use Rattle.rj_exchange.proofs.boxes.ends.give_back_all.Goals as goal
 

@@ -2,7 +2,7 @@ use Rattle.std.proofs.Common.{◌≡◌, ℕ, ◌+◌, ◌*◌, ◌<◌, length,
 use Rattle.std.specs.Vec.Iter.{into_iter_items}
 use Rattle.rj_exchange.specs.declared.boxes.Stub.{Stub}
 use Rattle.rj_exchange.specs.Boxes.{Queue}
-use Rattle.rj_exchange.specs.Ends.{IsLater, Knows, known_of}
+use Rattle.rj_exchange.specs.Internal.Ends.{IsLater, Knows, known_of}
 use Rattle.rj_exchange.proofs.boxes.ends.give_back_all.Given as goal
 
 abbrev pub invariant-loop-outbox : goal.invariant-loop-outbox

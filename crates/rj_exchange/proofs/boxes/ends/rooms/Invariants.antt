@@ -1,5 +1,5 @@
 use Rattle.std.proofs.Common.{◌≡◌, length, All}
-use Rattle.rj_exchange.specs.Ends.{IsRoom}
+use Rattle.rj_exchange.specs.Internal.Ends.{IsRoom}
 use Rattle.rj_exchange.proofs.boxes.ends.rooms.Given as goal
 
 abbrev pub invariant-loop : goal.invariant-loop

@@ -5,7 +5,7 @@ use Rattle.std.specs.Vec.Iter.{into_iter_items}
 use Rattle.crossbeam_queue.specs.Passes.{view}
 use Rattle.rj_exchange.specs.declared.boxes.Stub.{Stub}
 use Rattle.rj_exchange.specs.Boxes.{Queue, IsStubOf}
-use Rattle.rj_exchange.specs.Ends.{IsGrown}
+use Rattle.rj_exchange.specs.Internal.Ends.{IsGrown}
 use Rattle.rj_exchange.proofs.Stubs.{any_default}
 use Rattle.rj_exchange.proofs.boxes.ends.round.Goals as goal
 

@@ -2,7 +2,7 @@ use Rattle.std.proofs.Common.{◌≡◌, ℕ, ◌+◌, ◌*◌, ◌<◌, ◌≤�
 use Rattle.std.specs.Vec.Iter.{into_iter_items}
 use Rattle.rj_exchange.specs.declared.boxes.Stub.{Stub}
 use Rattle.rj_exchange.specs.Boxes.{Queue}
-use Rattle.rj_exchange.specs.Ends.{IsLater, IsGrown}
+use Rattle.rj_exchange.specs.Internal.Ends.{IsLater, IsGrown}
 use Rattle.rj_exchange.proofs.boxes.ends.round.Given as goal
 
 abbrev pub invariant-loop-lane : goal.invariant-loop-lane

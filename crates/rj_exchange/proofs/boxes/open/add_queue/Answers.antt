@@ -7,7 +7,7 @@ use Rattle.rj_exchange.specs.declared.boxes.Stub.{Stub}
 use Rattle.rj_exchange.specs.declared.queue.Trace.{Trace}
 use Rattle.rj_exchange.specs.declared.queue.Where.{Where}
 use Rattle.rj_exchange.specs.Passing.{taker, sender}
-use Rattle.rj_exchange.specs.Opening.{place_of, AddsStub}
+use Rattle.rj_exchange.specs.Internal.Opening.{place_of, AddsStub}
 use Rattle.rj_exchange.proofs.Stubs.{any_default, taker_self}
 use Rattle.rj_exchange.proofs.boxes.open.add_queue.Goals as goal
 

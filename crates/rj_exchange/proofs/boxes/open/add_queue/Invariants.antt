@@ -2,7 +2,7 @@ use Rattle.std.proofs.Common.{◌≡◌, ℕ, ◌<◌, ◌≤◌, [], length, ge
 use Rattle.crossbeam_queue.specs.Passes.{view, IsPassOf}
 use Rattle.rj_exchange.specs.declared.boxes.Outbox.{Outbox}
 use Rattle.rj_exchange.specs.Passing.{taker}
-use Rattle.rj_exchange.specs.Opening.{place_of, AddsStub}
+use Rattle.rj_exchange.specs.Internal.Opening.{place_of, AddsStub}
 use Rattle.rj_exchange.proofs.boxes.open.add_queue.Given as goal
 
 abbrev pub ghosts-queue_at : goal.ghosts-queue_at

@@ -3,7 +3,7 @@ use Rattle.std.specs.Result.{is_ok}
 use Rattle.std.proofs.lemmas.Bool.{cases_lt}
 use Rattle.csv.specs.Reading.{records}
 use Rattle.rj_csv_io.specs.StrictReading.{config_of}
-use Rattle.rj_shards.specs.Underway.{SplitsAs}
+use Rattle.rj_shards.specs.Internal.Underway.{SplitsAs}
 use Rattle.rj_shards.proofs.RangeFacts.{finish-cuts, pass, put, too-long}
 use Rattle.rj_shards.proofs.division.cuts.cut_next.Goals as goal
 

@@ -1,7 +1,7 @@
 use Rattle.std.proofs.Common.{◌≡◌, ℕ, List, Some, Err, map}
 use Rattle.rj_columns.specs.declared.refused.BuildRefused.{BuildRefused}
 use Rattle.rj_shards.specs.Divisions.{dividing, table_begun}
-use Rattle.rj_shards.specs.Underway.{IsUnderway}
+use Rattle.rj_shards.specs.Internal.Underway.{IsUnderway}
 use Rattle.rj_shards.proofs.division.whole.divide.Given as goal
 
 abbrev pub invariant-loop-turn : goal.invariant-loop-turn

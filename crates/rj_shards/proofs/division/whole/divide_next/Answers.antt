@@ -5,7 +5,7 @@ use Rattle.std.proofs.lemmas.List.{length-map}
 use Rattle.rj_shards.specs.Divisions.{after_rows, dividing}
 use Rattle.rj_shards.specs.Readings.{IsHeaderRefusal}
 use Rattle.rj_shards.specs.Texts.{AreRecordsOf, HaveFirstRows, IsDivisionFault, IsPieceFault, reading_of_piece}
-use Rattle.rj_shards.specs.Underway.{ReadsOn}
+use Rattle.rj_shards.specs.Internal.Underway.{ReadsOn}
 use Rattle.rj_shards.specs.declared.division.reading.Reading.{Reading}
 use Rattle.rj_shards.specs.declared.division.refused.DivideRefused.TheVariants as refused
 use Rattle.rj_shards.proofs.DivisionFacts.{piece-reads}

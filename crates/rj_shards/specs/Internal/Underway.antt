@@ -7,7 +7,7 @@ use Rattle.rj_shards.specs.declared.division.reading.Reading.TheVariants as read
 use Rattle.rj_shards.specs.declared.division.whole.Rest.{Rest}
 use Rattle.rj_shards.specs.Blocks.{records_in}
 use Rattle.rj_shards.specs.Divisions.{Dividing, IsDivided}
-use Rattle.rj_shards.specs.Taken.{IsTaken}
+use Rattle.rj_shards.specs.Internal.Taken.{IsTaken}
 use Rattle.rj_csv_io.specs.Grammar.{Derives, Line}
 use Rattle.rj_csv_io.specs.StrictReading.{config_of}
 use Rattle.rj_csv_io.specs.declared.strict.header.HeaderPlace.TheVariants.{Above}

@@ -16,8 +16,8 @@ use Rattle.rj_workers.specs.declared.shared.Shared.{Shared}
 use Rattle.rj_workers.specs.declared.coordination.Coordination.{Coordination}
 use Rattle.rj_workers.specs.declared.coordination.Seats.{Seats}
 use Rattle.rj_workers.specs.Posts.{Due}
-use Rattle.rj_workers.specs.Scans.{AreNewScanners, AreScans, IsFreshStripeSeat, scanner_draws, scanner_outboxes, scanner_seats}
-use Rattle.rj_workers.specs.Takes.{Builds, AreTakes, IsNewTaker, OwnsNothing, taker_done_seats, taker_draws, taker_seats}
+use Rattle.rj_workers.specs.Internal.Scans.{AreNewScanners, AreScans, IsFreshStripeSeat, scanner_draws, scanner_outboxes, scanner_seats}
+use Rattle.rj_workers.specs.Internal.Takes.{Builds, AreTakes, IsNewTaker, OwnsNothing, taker_done_seats, taker_draws, taker_seats}
 
 -- words, stripes and tickets by these settings: a seat at the halt word for each scanner, each
 -- taker and the starting thread

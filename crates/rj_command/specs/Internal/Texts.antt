@@ -9,7 +9,7 @@ use Rattle.rj_csv_io.specs.Shown.{rows_text, shown}
 use Rattle.rj_engine.specs.Shown.{IsRunWithin, IsShownOf, run_view, shown_view}
 use Rattle.rj_engine.specs.declared.runs.Run.{Run}
 use Rattle.rj_command.specs.declared.join.texts.Written.{Written}
-use Rattle.rj_command.specs.Ends.{AreEndsOf}
+use Rattle.rj_command.specs.Internal.Ends.{AreEndsOf}
 
 -- texts, one after another
 abbrev pub whole_text : Vec (Vec ℕ Global) Global → List ℕ

@@ -3,7 +3,7 @@
 use Rattle.std.specs.Prelude.{◌==◌, ℕ, Bool, true, false, if◌then◌else◌, nat_lt, length, take, drop, Option, Some, None, List, [], ◌∷◌}
 use Rattle.std.specs.List.{prefix_len}
 use Rattle.rj_columns.specs.Names.{is_name}
-use Rattle.rj_condition.specs.Scanning.{quoted}
+use Rattle.rj_condition.specs.Internal.Scanning.{quoted}
 use Rattle.rj_condition.specs.Tokens.{is_name_byte}
 use Rattle.rj_condition.specs.declared.tree.Name.{Name}
 use Rattle.rj_settings.specs.declared.choice.SelectedColumn.{SelectedColumn}

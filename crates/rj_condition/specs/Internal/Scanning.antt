@@ -12,7 +12,7 @@ use Rattle.rj_condition.specs.declared.token.Sign.TheVariants as sign
 use Rattle.rj_condition.specs.declared.token.Token.{Token}
 use Rattle.rj_condition.specs.declared.token.Token.TheVariants as token
 use Rattle.rj_condition.specs.Tokens.{is_name_byte, spells, begins, begins_fraction}
-use Rattle.rj_condition.specs.Decimals.{decimal_of}
+use Rattle.rj_condition.specs.Internal.Decimals.{decimal_of}
 use Rattle.rj_condition.specs.declared.decimal.DecimalLiteral.{DecimalLiteral}
 
 -- a value found and what comes after it

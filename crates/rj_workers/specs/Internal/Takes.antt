@@ -17,7 +17,7 @@ use Rattle.rj_workers.specs.declared.take.Taker.{Taker}
 use Rattle.rj_workers.specs.declared.settings.WorkerSettings.{WorkerSettings}
 use Rattle.rj_workers.specs.declared.shared.Shared.{Shared}
 use Rattle.rj_workers.specs.Arrivals.{IsArrived, IsTaking, rows_by_sender}
-use Rattle.rj_workers.specs.Scans.{KnowsHalt}
+use Rattle.rj_workers.specs.Internal.Scans.{KnowsHalt}
 
 -- what a partition of a number and of rows by sender is built into
 abbrev pub Builds : Type 0 → Type 1

@@ -1,0 +1,2 @@
+-- Definitions that no public contract of this crate uses.
+pub mod Scanning

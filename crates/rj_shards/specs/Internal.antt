@@ -1,0 +1,3 @@
+-- Definitions that no public contract of this crate uses.
+pub mod Taken
+pub mod Underway
