@@ -65,7 +65,7 @@ FIGURES = (
     ("docs/dev/decisions.md", rf"`shards` reads ({NUMBER}) MiB at a time", 1 << 20, "shards/src/dividing.rt", "BLOCK"),
     ("docs/user/specification.md", rf"A and B are at most ({NUMBER}) and places", 1, "shards/src/dividing.rt", "MOST"),
     ("docs/user/specification.md", rf"NAME is left out if it has more than ({NUMBER}) bytes", 1, "rj_files/src/draft.rt", "LONGEST"),
-    ("docs/user/specification.md", rf"of more than ({NUMBER}) bytes the first ones", 1, "rj_explain/src/shown.rt", "MOST"),
+    ("docs/user/specification.md", rf"of more than ({NUMBER}) bytes the first ones", 1, "rj_line/src/shown.rt", "MOST"),
     ("docs/user/specification.md", rf"another text of 1 to ({NUMBER}) bytes", 1, "rj_line/src/choice.rt", "LONGEST_SUFFIX"),
     ("docs/user/specification.md", rf"would have more than ({NUMBER}) bytes before it is like no other", 1, "rj_engine/src/naming.rt", "MAX_NAME"),
 )

@@ -11,7 +11,6 @@ mod ApartFacts
 mod BackFacts
 mod NumberFacts
 mod ReportFacts
-mod ShownFacts
 pub mod SideFacts
 pub mod StatisticsFacts
 mod AutoFacts

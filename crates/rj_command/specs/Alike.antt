@@ -11,7 +11,7 @@ use Rattle.rj_condition.specs.Tokens.{is_name_byte}
 use Rattle.rj_line.specs.declared.fault.Side.{Side}
 use Rattle.rj_line.specs.declared.fault.Side.TheVariants as side
 use Rattle.rj_line.specs.declared.request.Request.{Request}
-use Rattle.rj_command.specs.ShownTexts.{shown_text}
+use Rattle.rj_line.specs.Shown.{shown}
 use Rattle.rj_command.specs.Sides.{types_of}
 use Rattle.rj_command.specs.Undeclared.{is_open, is_undeclared}
 use Rattle.rj_command.specs.declared.join.numerals.Spelling.{Spelling}
@@ -96,7 +96,7 @@ is_text_key q l r k =
 
 -- a name as it is, if it has only letters, digits and underscores, or else as a report shows a text
 abbrev pub shown_name : List ℕ → List ℕ
-shown_name name = if list_all is_name_byte name then name else shown_text name
+shown_name name = if list_all is_name_byte name then name else shown name
 
 -- the names of a key's columns, as they are shown
 abbrev pub names_at : TableValue → TableValue → ℕ × ℕ → List ℕ × List ℕ

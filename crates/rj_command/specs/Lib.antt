@@ -16,7 +16,6 @@ pub mod Expected
 pub mod Counts
 pub mod ReadBack
 pub mod Reported
-pub mod ShownTexts
 pub mod Violations
 pub mod Auto
 pub mod Internal

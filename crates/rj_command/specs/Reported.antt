@@ -14,7 +14,7 @@ use Rattle.rj_engine.specs.Reports.{IsReport}
 use Rattle.rj_engine.specs.declared.groups.Group.{Group}
 use Rattle.rj_engine.specs.declared.groups.KeyReport.{KeyReport}
 use Rattle.rj_engine.specs.declared.reporting.JoinReport.{JoinReport}
-use Rattle.rj_command.specs.ShownTexts.{shown_text}
+use Rattle.rj_line.specs.Shown as texts
 use Rattle.rj_line.specs.declared.request.Request.{Request}
 
 -- the lines of the rows and the matches
@@ -31,7 +31,7 @@ spread_text k =
 
 -- the name of a column and its cell at a row, as they are shown
 abbrev pub cell_part : TableValue → ℕ → ℕ → List ℕ
-cell_part t row c = codes ", " ++ (shown_text (slice_index_or t.names c []) ++ (codes " = " ++ shown_text (shown [] (cell_of t row c))))
+cell_part t row c = codes ", " ++ (texts.shown (slice_index_or t.names c []) ++ (codes " = " ++ texts.shown (shown [] (cell_of t row c))))
 
 -- the line of the largest group: its counts, and its key as the left table has it
 abbrev pub largest_text : BoundJoin → TableValue → Option Group → List ℕ

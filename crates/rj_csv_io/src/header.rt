@@ -18,7 +18,8 @@ use std::io::Read;
 // How many of the first bytes are used to estimate the length of a line.
 const SAMPLE: usize = 65536;
 
-/// A reader of all records of a text, its header among them.
+/// A reader of all records of a text, its header among them. A byte order mark at the start of the
+/// text is left out.
 pub fn open_reader<R: Read>(alloc: Global, text: R, delimiter: Delimiter) -> Reader<R>
     ensures between { IfSome (R.remaining text) (λ _. IsBetween R.remaining result) }
     ensures records { IfSome (R.remaining text) (λ bytes. records_remaining R.remaining result ≡ records_in delimiter bytes) }

@@ -9,5 +9,4 @@ pub mod NameFacts
 pub mod NearFacts
 pub mod PlaceFacts
 pub mod SelectedFacts
-pub mod ShownFacts
 pub mod WordFacts

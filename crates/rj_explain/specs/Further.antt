@@ -9,7 +9,7 @@ use Rattle.rj_line.specs.declared.fault.Side.TheVariants as side
 use Rattle.rj_settings.specs.Columns.{types_under}
 use Rattle.rj_explain.specs.Explained.{IsTextOf, delimiter_of, side_file, types_of}
 use Rattle.rj_explain.specs.Places.{HasNoRow, IsRow, at_column}
-use Rattle.rj_explain.specs.Shown.{shown}
+use Rattle.rj_line.specs.Shown.{shown}
 use Rattle.rj_explain.specs.declared.further.TypedColumn.{TypedColumn}
 use Rattle.rj_explain.specs.declared.inputs.Inputs.{Inputs}
 

@@ -5,7 +5,7 @@ use Rattle.rj_line.specs.declared.fault.Fault.{Fault}
 use Rattle.rj_line.specs.declared.fault.Fault.TheVariants as fault
 use Rattle.rj_line.specs.declared.fault.Side.{Side}
 use Rattle.rj_line.specs.declared.fault.Side.TheVariants as side
-use Rattle.rj_explain.specs.Shown.{is_text}
+use Rattle.rj_line.specs.Shown.{is_text}
 use Rattle.rj_explain.specs.declared.hints.Separator.{Separator}
 use Rattle.rj_explain.specs.declared.hints.Separator.TheVariants as separator
 

@@ -9,7 +9,8 @@ use Rattle.rj_line.specs.declared.fault.Side.{Side}
 use Rattle.rj_settings.specs.Columns.{types_under}
 use Rattle.rj_settings.specs.declared.types.entry.TypeEntry.{TypeEntry}
 use Rattle.rj_explain.specs.Places.{at_column}
-use Rattle.rj_explain.specs.Shown.{listed, names_text, shown, wanted_rule, wanted_word}
+use Rattle.rj_explain.specs.Shown.{listed, names_text, wanted_rule, wanted_word}
+use Rattle.rj_line.specs.Shown.{shown}
 
 -- a line that names a line of the file, and what comes after that
 abbrev pub file_line : ℕ → List ℕ → List ℕ

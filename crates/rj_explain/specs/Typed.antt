@@ -10,8 +10,9 @@ use Rattle.rj_condition.specs.declared.bound.BoundOperand.TheVariants as operand
 use Rattle.rj_condition.specs.declared.tree.Literal.{Literal}
 use Rattle.rj_condition.specs.declared.tree.Literal.TheVariants as literal
 use Rattle.rj_columns.specs.NumbersWritten.{text_of}
-use Rattle.rj_explain.specs.Shown as shown
-use Rattle.rj_explain.specs.Shown.{shown_byte, type_word}
+use Rattle.rj_line.specs.Shown as shown
+use Rattle.rj_explain.specs.Shown.{type_word}
+use Rattle.rj_line.specs.Shown.{shown_byte}
 
 -- a name of ASCII letters, digits and `_` as it is, and any other between double quotes
 abbrev pub is_plain : List ℕ → Bool

@@ -18,7 +18,8 @@ use Rattle.rj_settings.specs.declared.choice.Source.{Source}
 use Rattle.rj_settings.specs.declared.choice.Source.TheVariants as source
 use Rattle.rj_explain.specs.Lines.{both_words}
 use Rattle.rj_explain.specs.Names.{IsMeant}
-use Rattle.rj_explain.specs.Shown.{meant_text, names_text, shown}
+use Rattle.rj_explain.specs.Shown.{meant_text, names_text}
+use Rattle.rj_line.specs.Shown.{shown}
 
 -- the names of the two tables
 pub record BothNames : Type 0 where

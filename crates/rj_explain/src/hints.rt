@@ -4,13 +4,13 @@ ghost use Rattle.std.specs.Prelude.{◌≡◌, IfOk, None, Some, map, not, strin
 ghost use Rattle.std.specs.List.{list_any};
 ghost use Rattle.rj_explain.specs.Explained.{delimiter_of, file_read, header_names, separators_told, table_told};
 ghost use Rattle.rj_explain.specs.Hints as hints;
-ghost use Rattle.rj_explain.specs.Shown as spec;
+ghost use Rattle.rj_line.specs.Shown as spec;
 
 use crate::inputs::{Inputs, TableFile, header_of};
-use crate::shown::text_in;
 use rj_columns::Table;
 use rj_csv_io::strict::Delimiter;
 use rj_line::fault::{Fault, Side};
+use rj_line::shown::text_in;
 use std::alloc::{AllocError, Global};
 
 const GZIP: &str = "is compressed: gzip -dc FILE > table.csv unpacks it";

@@ -12,12 +12,12 @@ ghost use Rattle.rj_explain.specs.Lines.{fields_text};
 use crate::cells::{HeaderAndRow, find_both};
 use crate::clause::{BothColumns, columns_of_both};
 use crate::inputs::Inputs;
-use crate::shown::Shown;
 use rj_columns::Table;
 use rj_condition::{BindRefused, BoundJoin, ParseRefused, bind, parse, split};
 use rj_engine::{NamingRefused, chosen_names};
 use rj_line::Request;
 use rj_line::fault::Side;
+use rj_line::shown::Shown;
 use std::alloc::{AllocError, Global};
 
 /// The join that a clause asks of two tables, if it is valid.

@@ -37,6 +37,5 @@ pub use inputs::Inputs;
 pub use joined::explain_row;
 pub use lists::explain_list;
 pub use row::{Row, field_at, find_row};
-pub use shown::Shown;
 pub use strict::line_of_fault;
 pub use words::explain_words;

@@ -6,7 +6,7 @@ ghost use Rattle.rj_explain.specs.Listed.{IsListTold};
 
 use crate::entries::{bad_entry, is_list};
 use crate::quoting::delimited;
-use crate::shown::Shown;
+use rj_line::shown::Shown;
 use std::alloc::{AllocError, Global};
 
 // Why this text isn't the precision and scale of a numeric type.

@@ -3,15 +3,16 @@
 ghost use Rattle.std.specs.Prelude.{◌≡◌, ◌++◌, IfOk, Some, codes, slice_get, string_bytes};
 ghost use Rattle.std.specs.Fmt.{WritesOnOk};
 ghost use Rattle.rj_explain.specs.Explained.{IsApartTold, IsMismatchTold, pair_line};
-ghost use Rattle.rj_explain.specs.Shown as shown;
+ghost use Rattle.rj_line.specs.Shown as shown;
 ghost use Rattle.rj_explain.specs.Typed.{column_text, digits, is_plain, literal_text, name_word, typed_text};
 
 use crate::clause::{BothColumns, columns_of_both};
 use crate::inputs::Inputs;
-use crate::shown::{Shown, ShownText, TypeWord, write_loose_bytes};
+use crate::shown::TypeWord;
 use rj_columns::Table;
 use rj_columns::decimal::DecimalBuffer;
 use rj_condition::{BoundOperand, DecimalLiteral, Literal, Mismatch, first_mismatch};
+use rj_line::shown::{Shown, ShownText, write_loose_bytes};
 use std::alloc::{AllocError, Global};
 use std::fmt;
 

@@ -6,8 +6,8 @@ ghost use Rattle.std.specs.Option.{option_copied};
 ghost use Rattle.rj_explain.specs.Names.{AreEdits, IsMeant, lowered};
 ghost use Rattle.rj_explain.specs.Shown.{listed, meant_text, names_text};
 
-use crate::shown::Shown;
 use rj_columns::Table;
+use rj_line::shown::Shown;
 use std::alloc::{AllocError, Global};
 use std::fmt;
 use strsim::damerau_levenshtein;

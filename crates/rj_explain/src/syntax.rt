@@ -4,8 +4,8 @@ ghost use Rattle.std.specs.Prelude.{◌<◌};
 
 use crate::inputs::Inputs;
 use crate::quoting::quoting_line;
-use crate::shown::Shown;
 use rj_condition::{ParseRefused, parse, quoted};
+use rj_line::shown::Shown;
 use std::alloc::{AllocError, Global};
 
 // What may be in a clause, and what it is called.

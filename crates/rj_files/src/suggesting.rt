@@ -19,9 +19,10 @@ use crate::reading::{Stream, read_stream};
 use crate::recording::ErrorRecordingWriter;
 use rj_command::fault_of_text;
 use rj_csv_io::{CountedWriter, InputFormat, Output};
-use rj_explain::{Shown, explain_separator};
+use rj_explain::explain_separator;
 use rj_line::Strictness;
 use rj_line::fault::{Fault, Side};
+use rj_line::shown::Shown;
 use rj_line::suggest::{
     ListedColumns, Misfit, StrictlyRefused, Suggestion, suggest_listed, suggest_listed_strictly,
 };

@@ -13,3 +13,4 @@ pub mod NumeralFacts
 pub mod ReadingFacts
 pub mod ReportFacts
 pub mod SplitFacts
+pub mod ShownFacts

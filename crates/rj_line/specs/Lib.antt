@@ -6,6 +6,7 @@ pub mod Options
 pub mod Choices
 pub mod Delimiters
 pub mod Named
+pub mod Shown
 pub mod Faults
 pub mod Listed
 pub mod Misfits

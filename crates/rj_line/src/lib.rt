@@ -1,7 +1,7 @@
 //! The command line of a join: its options, and the request that its words make.
 //!
 //! [`fault`] says why a program ended without its output. [`suggest`] has the types that a file
-//! suggests. [`script`] replays scripts of arrivals at a partition.
+//! suggests. [`shown`] has how texts are shown. [`script`] replays scripts of arrivals at a partition.
 #![tactic(auto)]
 
 mod choice;
@@ -16,6 +16,7 @@ mod nulls;
 mod options;
 mod request;
 pub mod script;
+pub mod shown;
 pub mod suggest;
 mod types;
 

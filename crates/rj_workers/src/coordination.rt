@@ -30,16 +30,16 @@ impl Coordination {
         ensures words { (result.halt.now ≡ self.now.halt) × (result.done.now ≡ self.now.done)
             × (result.stripes.now ≡ self.now.stripes) × (result.tickets.now ≡ self.now.tickets) }
     {
-        Shared::new(
+        Shared {
             exchange,
-            &self.halt,
-            &self.done,
-            &self.stripes,
-            &self.tickets,
+            halt: &self.halt,
+            done: &self.done,
+            stripes: &self.stripes,
+            tickets: &self.tickets,
             job,
             gate,
             settings,
-        )
+        }
     }
 }
 

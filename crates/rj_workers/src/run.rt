@@ -23,29 +23,29 @@ use std::sync::Wait;
 use std::thread::Threads;
 use std::time::Clock;
 
-// What all partitions have in the end. The inboxes are those that `B` names.
+// What all partitions have in the end, by what was opened: the exchange, its outboxes and its
+// inboxes. The inboxes are those that `B` names.
 fn run_opened<B: Fresh, R: Threads + Wait + Clock + Sync, J: Job + Sync, G: Gate + Sync>(
     rt: &R,
     alloc: Global,
     job: &J,
     gate: &G,
     settings: WorkerSettings,
-    exchange: &Exchange,
-    outboxes: Vec<Outbox>,
-    inboxes: Vec<Inbox>,
+    opened: (Exchange, Vec<Outbox>, Vec<Inbox>),
 ) -> Result<Vec<EndedPartition<J::Built>>, AllocError>
 where
     J::Built: Send,
     requires limits { InLimits settings.workers settings.partitions settings.block settings.lanes settings.capacity }
     requires job { (J.stripes job.now ≡ settings.workers) × (J.partitions job.now ≡ settings.partitions) }
-    requires exchange { (exchange.now.outboxes ≡ settings.workers) × (exchange.now.partitions ≡ settings.partitions) }
-    requires outboxes { AreNewOutboxes exchange.now settings.workers outboxes.items }
-    requires inboxes { (length inboxes.items ≡ settings.partitions) × (inboxes.items ≡ B.inboxes) }
-    requires fresh { AreFreshInboxes exchange.now inboxes.items }
-    requires opened { AreOpenedOf exchange.now settings B.inboxes B.senders B.block }
+    requires exchange { (opened.0.outboxes ≡ settings.workers) × (opened.0.partitions ≡ settings.partitions) }
+    requires outboxes { AreNewOutboxes opened.0 settings.workers opened.1.items }
+    requires inboxes { (length opened.2.items ≡ settings.partitions) × (opened.2.items ≡ B.inboxes) }
+    requires fresh { AreFreshInboxes opened.0 opened.2.items }
+    requires opened { AreOpenedOf opened.0 settings B.inboxes B.senders B.block }
     ensures len { IfOk result (λ v. length v.items ≡ settings.partitions) }
     ensures each { IfOk result (λ v. AreSettled (J.builds job.now) (J.due job.now) (settings.workers + settings.workers) settings.partitions v.items) }
 {
+    let (exchange, outboxes, inboxes) = opened;
     let places = open_places::<B>(
         alloc,
         inboxes,
@@ -55,11 +55,11 @@ where
     let (words, seats) = open_coordination(rt, alloc, settings)?;
     let (workers, own) = make_workers(alloc, outboxes, seats)?;
     let (back, own) = {
-        let shared = words.shared(exchange, job, gate, settings);
+        let shared = words.shared(&exchange, job, gate, settings);
         work(rt, alloc, &shared, &places, workers, own)?
     };
     let shared = EndShared {
-        exchange,
+        exchange: &exchange,
         job,
         settings,
     };
@@ -93,16 +93,14 @@ where
     ensures built { IfOk result (λ r. (p : ℕ) (d : _) → p < settings.partitions →
         J.builds job.now p (due_lists (J.due job.now) (settings.workers + settings.workers) p) (slice_index_or r.built.items p d)) }
 {
-    let (exchange, outboxes, inboxes) = Exchange::open(
+    let opened = Exchange::open(
         alloc,
         settings.workers,
         settings.partitions,
         settings.lanes,
         settings.capacity as usize,
     )?;
-    let all = run_opened::<Brand, R, J, G>(
-        rt, alloc, job, gate, settings, &exchange, outboxes, inboxes,
-    )?;
+    let all = run_opened::<Brand, R, J, G>(rt, alloc, job, gate, settings, opened)?;
     let delivered = build_rest(alloc, job, all)?;
     Ok(delivered)
 }

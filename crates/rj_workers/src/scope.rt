@@ -130,9 +130,16 @@ where
                 f.entry.halt.now f.entry.stripes.now f.entry.settings r.0) }
             ensures own { IfOk result (λ r. IsHaltSeatOf f.entry.halt.now r.1) }
         {
-            let shared = Shared::new(
-                f.exchange, f.halt, f.done, f.stripes, f.tickets, f.job, f.gate, f.settings,
-            );
+            let shared = Shared {
+                exchange: f.exchange,
+                halt: f.halt,
+                done: f.done,
+                stripes: f.stripes,
+                tickets: f.tickets,
+                job: f.job,
+                gate: f.gate,
+                settings: f.settings,
+            };
             run_or_halt(scope, rt, alloc, &shared, places, workers, own)
         },
     )

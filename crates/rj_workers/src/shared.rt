@@ -1,5 +1,4 @@
 //! What all workers of a run share.
-ghost use Rattle.std.specs.Prelude.{◌≡◌};
 
 use crate::settings::WorkerSettings;
 use rj_exchange::{Exchange, Halt, Stripes, Tickets};
@@ -32,38 +31,3 @@ impl<J, G> Clone for Shared<'_, J, G> {
 }
 
 impl<J, G> Copy for Shared<'_, J, G> {}
-
-impl<'a, J, G> Shared<'a, J, G> {
-    pub(crate) fn new(
-        exchange: &'a Exchange,
-        halt: &'a Halt,
-        done: &'a Halt,
-        stripes: &'a Stripes,
-        tickets: &'a Tickets,
-        job: &'a J,
-        gate: &'a G,
-        settings: WorkerSettings,
-    ) -> Self
-        ensures { result ≡ record {
-          exchange = exchange.entry;
-          halt = halt.entry;
-          done = done.entry;
-          stripes = stripes.entry;
-          tickets = tickets.entry;
-          job = job.entry;
-          gate = gate.entry;
-          settings = settings;
-        } }
-    {
-        Shared {
-            exchange,
-            halt,
-            done,
-            stripes,
-            tickets,
-            job,
-            gate,
-            settings,
-        }
-    }
-}

@@ -79,9 +79,16 @@ where
                 f.entry.halt.now f.entry.stripes.now number result }
         {
             let _number = number;
-            let shared = Shared::new(
-                f.exchange, f.halt, f.done, f.stripes, f.tickets, f.job, f.gate, f.settings,
-            );
+            let shared = Shared {
+                exchange: f.exchange,
+                halt: f.halt,
+                done: f.done,
+                stripes: f.stripes,
+                tickets: f.tickets,
+                job: f.job,
+                gate: f.gate,
+                settings: f.settings,
+            };
             scan(rt, alloc, &shared, me)
         },
     );
@@ -140,9 +147,16 @@ where
                 × AreOpenedOf f.exchange.now f.settings B.inboxes B.senders B.block × IsNewTaker f.halt.now f.done.now f.tickets.now me }
             ensures { IsTakeOf (J.builds f.entry.job.now) f.entry.exchange.now f.entry.halt.now f.entry.settings.workers f.entry.settings.block result }
         {
-            let shared = Shared::new(
-                f.exchange, f.halt, f.done, f.stripes, f.tickets, f.job, f.gate, f.settings,
-            );
+            let shared = Shared {
+                exchange: f.exchange,
+                halt: f.halt,
+                done: f.done,
+                stripes: f.stripes,
+                tickets: f.tickets,
+                job: f.job,
+                gate: f.gate,
+                settings: f.settings,
+            };
             take_all(rt, alloc, &shared, places, me)
         },
     );

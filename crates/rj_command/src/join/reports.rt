@@ -11,7 +11,7 @@ ghost use Rattle.rj_columns.specs.NumbersWritten.{text_of};
 ghost use Rattle.rj_engine.specs.Reports.{AreKeysOf};
 ghost use Rattle.rj_engine.specs.Results.{joined_of};
 ghost use Rattle.rj_command.specs.Reported.{IsReported, cell_part, counts_text, kept_note, keys_text, largest_text, report_text, spread_text};
-ghost use Rattle.rj_command.specs.ShownTexts.{shown_text};
+ghost use Rattle.rj_line.specs.Shown as texts;
 
 use crate::join::operands::Operands;
 use crate::join::shown::shown_text;
@@ -88,7 +88,7 @@ fn cell_text(alloc: Global, cell: Cell<'_>) -> Result<String, AllocError>
 
 // A name and a cell, as they are shown.
 fn part_text(alloc: Global, name: &str, cell: &str) -> Result<String, AllocError>
-    ensures { IfOk result (λ s. string_bytes s ≡ codes ", " ++ (shown_text name.now ++ (codes " = " ++ shown_text cell.now))) }
+    ensures { IfOk result (λ s. string_bytes s ≡ codes ", " ++ (texts.shown name.now ++ (codes " = " ++ texts.shown cell.now))) }
 {
     let name = shown_text(alloc, name)?;
     let value = shown_text(alloc, cell)?;

@@ -1,6 +1,7 @@
 use Rattle.std.proofs.Common.{◌≡◌, ◌∙◌, ◌++◌, Bor, List, [], ℕ, ap, arith, codes, get_or, map, rules, sym, take}
 use Rattle.std.specs.Prelude.{string_bytes}
-use Rattle.rj_explain.specs.Shown.{listed, shown}
+use Rattle.rj_explain.specs.Shown.{listed}
+use Rattle.rj_line.specs.Shown.{shown}
 use Rattle.rj_explain.proofs.NameFacts.{get-map, item-is, listed-more}
 use Rattle.rj_explain.proofs.headers.names_line.Goals as goal
 

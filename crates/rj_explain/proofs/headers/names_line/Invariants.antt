@@ -1,6 +1,7 @@
 use Rattle.std.proofs.Common.{◌≡◌, ◌++◌, codes, map, take}
 use Rattle.std.specs.Prelude.{string_bytes}
-use Rattle.rj_explain.specs.Shown.{listed, shown}
+use Rattle.rj_explain.specs.Shown.{listed}
+use Rattle.rj_line.specs.Shown.{shown}
 use Rattle.rj_explain.proofs.headers.names_line.Given as goal
 
 abbrev pub invariant-loop-i : goal.invariant-loop-i

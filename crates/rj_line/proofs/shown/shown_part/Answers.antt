@@ -1,8 +1,8 @@
 use Rattle.std.proofs.Common.{◌≡◌, ◌∙◌, ◌≤◌, ap, arith, length, rules, sym, take}
 use Rattle.std.specs.Str.Lossy.{utf8_valid_len}
 use Rattle.std.proofs.lemmas.List.{length-take-le}
-use Rattle.rj_explain.proofs.ShownFacts.{front_shown, head_shown}
-use Rattle.rj_explain.proofs.shown.shown_part.Goals as goal
+use Rattle.rj_line.proofs.ShownFacts.{front_shown, head_shown}
+use Rattle.rj_line.proofs.shown.shown_part.Goals as goal
 
 pub slice_bounds-head-end : goal.slice_bounds-head-end
 slice_bounds-head-end c =

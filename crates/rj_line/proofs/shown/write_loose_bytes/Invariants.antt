@@ -1,8 +1,8 @@
 use Rattle.std.proofs.Common.{take}
 use Rattle.std.specs.List.{flat_map}
 use Rattle.std.specs.Fmt.{HasWritten, IsPlainFormatter}
-use Rattle.rj_explain.specs.Shown.{shown_byte}
-use Rattle.rj_explain.proofs.shown.write_loose_bytes.Given as goal
+use Rattle.rj_line.specs.Shown.{shown_byte}
+use Rattle.rj_line.proofs.shown.write_loose_bytes.Given as goal
 
 abbrev pub invariant-loop-byte : goal.invariant-loop-byte
 invariant-loop-byte g l =

@@ -6,7 +6,7 @@ use Rattle.std.specs.Str.Lossy.{utf8_valid_len}
 use Rattle.std.proofs.lemmas.Grind.{flat_map-append}
 use Rattle.std.proofs.lemmas.List.{length-take-le, take-take, take_all}
 use Rattle.std.proofs.lemmas.Str.{utf8_valid_len-IsUtf8}
-use Rattle.rj_explain.specs.Shown.{shown_part}
+use Rattle.rj_line.specs.Shown.{shown_part}
 
 -- a text of so few bytes is shown whole
 pub whole_shown : (text : List ℕ) → IsUtf8 text → length text ≤ 60 → text ≡ shown_part text

@@ -1,7 +1,7 @@
 use Rattle.std.specs.List.{flat_map}
 use Rattle.std.specs.Fmt.{HasWritten, IsPlainFormatter}
-use Rattle.rj_explain.specs.Shown.{literal_char}
-use Rattle.rj_explain.proofs.shown.write_literal.Given as goal
+use Rattle.rj_line.specs.Shown.{literal_char}
+use Rattle.rj_line.proofs.shown.write_literal.Given as goal
 
 abbrev pub invariant-loop-character : goal.invariant-loop-character
 invariant-loop-character g l =

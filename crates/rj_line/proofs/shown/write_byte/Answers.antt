@@ -1,6 +1,6 @@
 use Rattle.std.proofs.Common.{rules}
 use Rattle.std.proofs.lemmas.Fmt.{hex_byte}
-use Rattle.rj_command.proofs.join.shown.byte_text.Goals as goal
+use Rattle.rj_line.proofs.shown.write_byte.Goals as goal
 
 pub returns : goal.returns
-returns c = search (rules, hex_byte)
+returns g c = search (rules, hex_byte)

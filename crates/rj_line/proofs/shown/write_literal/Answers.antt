@@ -4,9 +4,9 @@ use Rattle.std.specs.List.{flat_map}
 use Rattle.std.specs.Result.{IsOk}
 use Rattle.std.proofs.lemmas.Iterator.{YieldsList-from_chars}
 use Rattle.std.proofs.lemmas.Iterator.Consumers.{YieldsList-end}
-use Rattle.rj_explain.specs.Shown.{literal_char}
-use Rattle.rj_explain.proofs.ShownFacts.{flat_map-one}
-use Rattle.rj_explain.proofs.shown.write_literal.Goals as goal
+use Rattle.rj_line.specs.Shown.{literal_char}
+use Rattle.rj_line.proofs.ShownFacts.{flat_map-one}
+use Rattle.rj_line.proofs.shown.write_literal.Goals as goal
 
 pub returns : goal.returns
 returns g c = λ plain ok.
