@@ -4,7 +4,7 @@ use Rattle.std.specs.Prelude.{◌==◌}
 use Rattle.std.specs.List.{Contains, slice_index_or, slice_split}
 use Rattle.std.proofs.lemmas.Simd.{map-map}
 use Rattle.merges.specs.Copies.{copies_of}
-use Rattle.rj_merge.specs.declared.copies.Copies.{Copies}
+use Rattle.rj_shards.specs.declared.merge.copies.Copies.{Copies}
 
 none_among : (all : List Copies) (k : ℕ) → k < length (map Some all) → slice_index_or (map Some all) k None ≡ None → ⊥
 none_among [] k lt is = absurd (omega arith)

@@ -7,8 +7,8 @@ use Rattle.std.proofs.lemmas.List.{length-map, length-replicate}
 use Rattle.clap.specs.Words.{Text}
 use Rattle.merges.specs.Copies.{AreCopiesOf}
 use Rattle.merges.specs.Lines.{is_file_count}
-use Rattle.rj_merge.specs.Copies.{single}
-use Rattle.rj_merge.specs.declared.copies.Copies.{Copies}
+use Rattle.rj_shards.specs.Copies.{single}
+use Rattle.rj_shards.specs.declared.merge.copies.Copies.{Copies}
 
 -- the value of an option, as it is seen, or its default
 pub value_or : {X Y : Type 0} (seen : X → Y) (v : Option Y) (o : Option X) (u d : X) (n : Y) → option_map seen o ≡ v → u ≡ unwrap_or o d → seen d ≡ n → seen u ≡ unwrap_or v n

@@ -12,9 +12,9 @@ use Rattle.std.proofs.lemmas.Str.Parse.{IsDigitsTest, IsNumeralModel, numerals_b
 use Rattle.merges.specs.Copies as copies
 use Rattle.merges.specs.Lines as lines
 use Rattle.merges.specs.Lines.{place_named}
-use Rattle.rj_merge.specs.Texts.{is_number}
-use Rattle.rj_merge.specs.declared.place.Place.TheVariants.{Pair}
-use Rattle.rj_merge.proofs.NumberFacts.{number-Decides}
+use Rattle.rj_shards.specs.MergeTexts.{is_number}
+use Rattle.rj_shards.specs.declared.merge.place.Place.TheVariants.{Pair}
+use Rattle.rj_shards.proofs.NumberFacts.{number-Decides}
 
 tells_digits : IsDigitsTest (λ ds. list_all is_ascii_digit ds ≡ true)
 tells_digits = search rules

@@ -3,10 +3,10 @@ use Rattle.std.proofs.Common.{◌≡◌, ℕ, List, refl, inl, inr, subst, sym}
 use Rattle.merges.specs.Refusals.{IsOf, IsOfMerge}
 use Rattle.merges.specs.declared.failure.Failure.{Failure}
 use Rattle.merges.specs.declared.failure.Failure.TheVariants as failure
-use Rattle.rj_merge.specs.declared.refused.MergeRefused.{MergeRefused}
-use Rattle.rj_merge.specs.declared.refused.MergeRefused.TheVariants as refused
-use Rattle.rj_merge.specs.declared.refused.MergeTextsRefused.{MergeTextsRefused}
-use Rattle.rj_merge.specs.declared.refused.MergeTextsRefused.TheVariants as texts_refused
+use Rattle.rj_shards.specs.declared.merge.refused.MergeRefused.{MergeRefused}
+use Rattle.rj_shards.specs.declared.merge.refused.MergeRefused.TheVariants as refused
+use Rattle.rj_shards.specs.declared.merge.refused.MergeTextsRefused.{MergeTextsRefused}
+use Rattle.rj_shards.specs.declared.merge.refused.MergeTextsRefused.TheVariants as texts_refused
 
 of_input : (files : List (List ℕ)) (e : MergeRefused) (f : Failure) → IsOfMerge files e f → f ≡ failure.WriteDevice → ⊥
 of_input files refused.Memory f is written = cc (is, written)

@@ -4,8 +4,8 @@ use Rattle.std.specs.Char.{is_ascii_digit}
 use Rattle.std.specs.List.{after_first, before_first, list_all, slice_split}
 use Rattle.std.specs.Str.{bytes_eq}
 use Rattle.std.specs.Str.Parse.{digits_value}
-use Rattle.rj_merge.specs.Copies.{single}
-use Rattle.rj_merge.specs.declared.copies.Copies.{Copies}
+use Rattle.rj_shards.specs.Copies.{single}
+use Rattle.rj_shards.specs.declared.merge.copies.Copies.{Copies}
 
 -- a number of files: digits without a sign, from 1 to 1,048,576
 abbrev pub number_of : List ℕ → Option ℕ

@@ -5,8 +5,8 @@ use Rattle.clap.specs.declared.error.Error.{Error}
 use Rattle.rj_line.specs.Faults.{IsAskedFor, refused_status}
 use Rattle.merges.specs.declared.failure.Failure.{Failure}
 use Rattle.merges.specs.declared.failure.Failure.TheVariants as failure
-use Rattle.rj_merge.specs.declared.place.Place.{Place}
-use Rattle.rj_merge.specs.declared.place.Place.TheVariants as place
+use Rattle.rj_shards.specs.declared.merge.place.Place.{Place}
+use Rattle.rj_shards.specs.declared.merge.place.Place.TheVariants as place
 
 -- the line of an error of a file
 abbrev pub file_line : List ℕ → List ℕ → List ℕ

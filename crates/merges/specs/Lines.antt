@@ -18,11 +18,11 @@ use Rattle.merges.specs.declared.line.Line.{Line}
 use Rattle.rj_csv_io.specs.Tables.{is_null_text}
 use Rattle.rj_line.specs.Delimiters.{named_or_comma}
 use Rattle.rj_line.specs.Line.{null_word, texts_found}
-use Rattle.rj_merge.specs.Texts.{is_number}
-use Rattle.rj_merge.specs.declared.copies.Copies.{Copies}
-use Rattle.rj_merge.specs.declared.options.MergeOptions.{MergeOptions}
-use Rattle.rj_merge.specs.declared.place.Place.{Place}
-use Rattle.rj_merge.specs.declared.place.Place.TheVariants.{Pair}
+use Rattle.rj_shards.specs.MergeTexts.{is_number}
+use Rattle.rj_shards.specs.declared.merge.copies.Copies.{Copies}
+use Rattle.rj_shards.specs.declared.merge.options.MergeOptions.{MergeOptions}
+use Rattle.rj_shards.specs.declared.merge.place.Place.{Place}
+use Rattle.rj_shards.specs.declared.merge.place.Place.TheVariants.{Pair}
 use Rattle.rj_settings.specs.declared.choice.RowOrder.{RowOrder}
 use Rattle.rj_settings.specs.declared.choice.RowOrder.TheVariants.{LeftFirst, PairsFirst}
 

@@ -5,13 +5,13 @@ use Rattle.merges.specs.Lines.{IsLineFailure, IsMergeLine}
 use Rattle.merges.specs.Refusals.{IsOf}
 use Rattle.merges.specs.declared.failure.Failure.{Failure}
 use Rattle.merges.specs.declared.line.Line.{Line}
-use Rattle.rj_merge.specs.Inputs.{is_input}
-use Rattle.rj_merge.specs.MergedTexts.{GotMerge, HaveNoFault, HeedsHeaders, IsFaultOfTexts, IsPartlyMerged, IsUntouched}
-use Rattle.rj_merge.specs.Named.{ForNamed, IsOpenFault, OpensNothing}
-use Rattle.rj_merge.specs.Sources.{TellsAmong, is_outside}
-use Rattle.rj_merge.specs.declared.refused.MergeRefused.{MergeRefused}
-use Rattle.rj_merge.specs.declared.refused.MergeTextsRefused.{MergeTextsRefused}
-use Rattle.rj_merge.specs.declared.refused.MergeTextsRefused.TheVariants as refused
+use Rattle.rj_shards.specs.Inputs.{is_input}
+use Rattle.rj_shards.specs.MergedTexts.{GotMerge, HaveNoFault, HeedsHeaders, IsFaultOfTexts, IsPartlyMerged, IsUntouched}
+use Rattle.rj_shards.specs.Named.{ForNamed, IsOpenFault, OpensNothing}
+use Rattle.rj_shards.specs.Sources.{TellsAmong, is_outside}
+use Rattle.rj_shards.specs.declared.merge.refused.MergeRefused.{MergeRefused}
+use Rattle.rj_shards.specs.declared.merge.refused.MergeTextsRefused.{MergeTextsRefused}
+use Rattle.rj_shards.specs.declared.merge.refused.MergeTextsRefused.TheVariants as refused
 
 -- the names of the files of a line
 abbrev pub names : Line → List Text

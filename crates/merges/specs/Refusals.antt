@@ -3,11 +3,11 @@ use Rattle.std.specs.Prelude.{◌≡◌, ◌-◌, ◌⊎◌, ℕ, List, [], IsSo
 use Rattle.std.specs.declared.alloc.Global.{Global}
 use Rattle.merges.specs.declared.failure.Failure.{Failure}
 use Rattle.merges.specs.declared.failure.Failure.TheVariants as failure
-use Rattle.rj_merge.specs.Sources.{told_input}
-use Rattle.rj_merge.specs.declared.refused.MergeRefused.{MergeRefused}
-use Rattle.rj_merge.specs.declared.refused.MergeRefused.TheVariants as refused
-use Rattle.rj_merge.specs.declared.refused.MergeTextsRefused.{MergeTextsRefused}
-use Rattle.rj_merge.specs.declared.refused.MergeTextsRefused.TheVariants as texts_refused
+use Rattle.rj_shards.specs.Sources.{told_input}
+use Rattle.rj_shards.specs.declared.merge.refused.MergeRefused.{MergeRefused}
+use Rattle.rj_shards.specs.declared.merge.refused.MergeRefused.TheVariants as refused
+use Rattle.rj_shards.specs.declared.merge.refused.MergeTextsRefused.{MergeTextsRefused}
+use Rattle.rj_shards.specs.declared.merge.refused.MergeTextsRefused.TheVariants as texts_refused
 
 -- a failure of the file of this number, counted from 1, by its name
 abbrev pub IsOfFile : List (List ℕ) → ℕ → (String Global → Failure) → Failure → Type 0

@@ -3,13 +3,13 @@
 ghost use Rattle.std.specs.Prelude.{◌≡◌, ◌≢◌, ◌==◌, Contains, Err, IfErr, IfOk, List, None, Some, map, option_map};
 ghost use Rattle.std.specs.Char.{is_ascii_digit};
 ghost use Rattle.std.specs.List.{list_all, slice_split};
-ghost use Rattle.rj_merge.specs.declared.copies.Copies.{Copies};
+ghost use Rattle.rj_shards.specs.declared.merge.copies.Copies.{Copies};
 ghost use Rattle.merges.specs.Copies as specs;
 ghost use Rattle.merges.specs.Copies.{AreCopiesOf};
 ghost use Rattle.merges.specs.declared.failure.Failure.{Failure};
 
 use crate::failure::Failure;
-use rj_merge::Copies;
+use rj_shards::merge::Copies;
 use std::alloc::{AllocError, Global};
 
 // The most files that a row may have to be in.

@@ -4,11 +4,11 @@ ghost use Rattle.std.specs.Prelude.{◌≡◌, ◌-◌, [], IfOk, IsSome, OnErr,
 ghost use Rattle.std.specs.Fmt.{WritesOnOk};
 ghost use Rattle.merges.specs.Failures.{file_line, place_line, row_line};
 ghost use Rattle.merges.specs.Refusals.{IsOf, IsOfMerge};
-ghost use Rattle.rj_merge.specs.Sources.{told_input};
+ghost use Rattle.rj_shards.specs.Sources.{told_input};
 
 use clap::Error;
 use rj_line::fault::ExitReason;
-use rj_merge::{MergeRefused, MergeTextsRefused, Place};
+use rj_shards::merge::{MergeRefused, MergeTextsRefused, Place};
 use std::alloc::{AllocError, Global};
 use std::fmt;
 

@@ -13,7 +13,7 @@ use clap::{Arg, ArgAction, ArgMatches, Command, value_parser};
 use rj_csv_io::is_lawful_null;
 use rj_line::delimiter_of;
 use rj_line::fault::VERSION;
-use rj_merge::{Copies, MergeOptions, Place, RowOrder};
+use rj_shards::merge::{Copies, MergeOptions, Place, RowOrder};
 use std::alloc::{AllocError, Global};
 
 // What `--help` prints.

@@ -13,7 +13,7 @@ use crate::failure::Failure;
 use crate::merging::merge_words;
 use rj_csv_io::CountedWriter;
 use rj_line::fault::{read_words, tell, texts_of};
-use rj_merge::Opener;
+use rj_shards::merge::Opener;
 use std::env::Env;
 use std::fs::{self, Files};
 use std::io;

@@ -6,13 +6,13 @@ ghost use Rattle.merges.specs.Lines.{IsMergeLine};
 ghost use Rattle.merges.specs.Merges.{IsFailure, IsMergeOfWords, IsRefusalOfLine, names};
 ghost use Rattle.merges.specs.declared.failure.Failure.{Failure};
 ghost use Rattle.merges.specs.declared.line.Line.{Line};
-ghost use Rattle.rj_merge.specs.MergedTexts.{GotMerge, HaveNoFault};
-ghost use Rattle.rj_merge.specs.Named.{ForNamed};
+ghost use Rattle.rj_shards.specs.MergedTexts.{GotMerge, HaveNoFault};
+ghost use Rattle.rj_shards.specs.Named.{ForNamed};
 
 use crate::failure::Failure;
 use crate::line::{Line, line_of, parse_words};
 use rj_csv_io::Output;
-use rj_merge::{Opener, merge_named};
+use rj_shards::merge::{Opener, merge_named};
 use std::alloc::Global;
 
 // Merges the files of a line, and puts the merge.

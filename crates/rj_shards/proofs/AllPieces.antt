@@ -10,7 +10,7 @@ use Rattle.rj_hashjoin.specs.Joining.{kept_of}
 use Rattle.rj_engine.specs.Join.{JoinedValue, rows_in}
 use Rattle.rj_engine.specs.declared.joined.JoinedRow.{JoinedRow}
 use Rattle.rj_engine.specs.declared.joined.JoinedRow.TheVariants.{Both, LeftOnly, RightOnly}
-use Rattle.rj_merge.specs.declared.place.Place.TheVariants.{Pair}
+use Rattle.rj_shards.specs.declared.merge.place.Place.TheVariants.{Pair}
 use Rattle.rj_shards.specs.Rows.{place_of}
 use Rattle.rj_shards.proofs.AtPlaces.{members_at}
 use Rattle.rj_shards.proofs.KeptPairs.{kept_of_runs}

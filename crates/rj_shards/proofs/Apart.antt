@@ -9,10 +9,10 @@ use Rattle.std.specs.declared.cmp.Ordering.TheVariants.{Less, Equal, Greater}
 use Rattle.std.proofs.lemmas.Bool.{false≢true}
 use Rattle.std.proofs.lemmas.List.Sorted.{IsPermutation-sym, IsPermutation-trans}
 use Rattle.std.proofs.lemmas.Map.Keys.{IsDistinct-IsPermutation}
-use Rattle.rj_merge.specs.declared.place.Place.{Place}
-use Rattle.rj_merge.specs.declared.place.Placed.{Placed}
-use Rattle.rj_merge.specs.Places.{place_order, place_total}
-use Rattle.rj_merge.specs.Wholes.{HasTwice}
+use Rattle.rj_shards.specs.declared.merge.place.Place.{Place}
+use Rattle.rj_shards.specs.declared.merge.place.Placed.{Placed}
+use Rattle.rj_shards.specs.Places.{place_order, place_total}
+use Rattle.rj_shards.specs.Wholes.{HasTwice}
 use Rattle.rj_shards.proofs.Rising.{IsBelow, Rise}
 
 turned_tie : (o : Ordering) → is_eq (ordering_reverse o) ≡ is_eq o

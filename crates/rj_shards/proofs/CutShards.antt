@@ -25,11 +25,11 @@ use Rattle.rj_engine.specs.Join.{JoinedValue, adds_left, adds_right, rows_in}
 use Rattle.rj_engine.specs.Results.{result_of}
 use Rattle.rj_engine.specs.declared.joined.JoinedRow.{JoinedRow}
 use Rattle.rj_engine.specs.declared.joined.JoinedRow.TheVariants.{Both, LeftOnly, RightOnly}
-use Rattle.rj_merge.specs.Copies.{AreAlike, AreSingle, Copied, copied, copied_rows, copy_of, needed, single}
-use Rattle.rj_merge.specs.Places.{lone_left_place, place_order, place_total}
-use Rattle.rj_merge.specs.Wholes.{IsMergeOf, RisesFrom}
-use Rattle.rj_merge.specs.declared.copies.Copies.{Copies}
-use Rattle.rj_merge.specs.declared.place.Placed.{Placed}
+use Rattle.rj_shards.specs.Copies.{AreAlike, AreSingle, Copied, copied, copied_rows, copy_of, needed, single}
+use Rattle.rj_shards.specs.Places.{lone_left_place, place_order, place_total}
+use Rattle.rj_shards.specs.Wholes.{IsMergeOf, RisesFrom}
+use Rattle.rj_shards.specs.declared.merge.copies.Copies.{Copies}
+use Rattle.rj_shards.specs.declared.merge.place.Placed.{Placed}
 use Rattle.rj_shards.specs.Pieces.{AreCutShards, AreRuns, copies_of, placed_pieces}
 use Rattle.rj_shards.specs.Renumbered.{Rises, all_renumbered, inputs_renumbered, renumbered_place}
 use Rattle.rj_shards.specs.Rows.{AreShards, place_of, placed_at, placed_rows, placed_shard}

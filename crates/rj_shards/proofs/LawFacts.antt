@@ -7,13 +7,13 @@ use Rattle.rj_columns.specs.Tables.{TableValue}
 use Rattle.rj_settings.specs.declared.choice.RowOrder.{RowOrder}
 use Rattle.rj_condition.specs.declared.bound.BoundJoin.{BoundJoin}
 use Rattle.rj_engine.proofs.ChosenFacts.{left_order}
-use Rattle.rj_merge.specs.Copies.{StandsTooOften, copied_rows}
-use Rattle.rj_merge.specs.Wholes.{HasTwice, IsMerge, IsMergeOf, RisesFrom}
-use Rattle.rj_merge.specs.declared.copies.Copies.{Copies}
-use Rattle.rj_merge.specs.declared.place.Place.{Place}
-use Rattle.rj_merge.specs.declared.place.Placed.{Placed}
-use Rattle.rj_merge.proofs.CopyLaws.{single_all, single_merge}
-use Rattle.rj_merge.proofs.WholeFacts.{only_merge_of}
+use Rattle.rj_shards.specs.Copies.{StandsTooOften, copied_rows}
+use Rattle.rj_shards.specs.Wholes.{HasTwice, IsMerge, IsMergeOf, RisesFrom}
+use Rattle.rj_shards.specs.declared.merge.copies.Copies.{Copies}
+use Rattle.rj_shards.specs.declared.merge.place.Place.{Place}
+use Rattle.rj_shards.specs.declared.merge.place.Placed.{Placed}
+use Rattle.rj_shards.proofs.CopyLaws.{single_all, single_merge}
+use Rattle.rj_shards.proofs.WholeFacts.{only_merge_of}
 use Rattle.rj_shards.specs.Pieces.{AreCutShards}
 use Rattle.rj_shards.specs.Renumbered.{Rises, all_renumbered, inputs_renumbered}
 use Rattle.rj_shards.specs.Rows.{AreShards, placed_rows}

@@ -10,9 +10,9 @@ use Rattle.rj_engine.specs.Chosen.{by_left_row, left_place}
 use Rattle.rj_engine.specs.Join.{JoinedValue, rows_in}
 use Rattle.rj_engine.specs.declared.joined.JoinedRow.{JoinedRow}
 use Rattle.rj_engine.specs.declared.joined.JoinedRow.TheVariants.{Both, LeftOnly, RightOnly}
-use Rattle.rj_merge.specs.declared.place.Place.{Place}
-use Rattle.rj_merge.specs.declared.place.Place.TheVariants.{LoneAmongPairs, LoneRight}
-use Rattle.rj_merge.specs.Places.{place_order}
+use Rattle.rj_shards.specs.declared.merge.place.Place.{Place}
+use Rattle.rj_shards.specs.declared.merge.place.Place.TheVariants.{LoneAmongPairs, LoneRight}
+use Rattle.rj_shards.specs.Places.{place_order}
 use Rattle.rj_shards.specs.Rows.{place_of}
 use Rattle.rj_shards.proofs.Rising.{IsBelow, Rise, AreBelow, below_append, pair_place, rise_append, rise_map}
 

@@ -7,11 +7,11 @@ use Rattle.std.proofs.lemmas.List.Elements.{All-contains_itself, All-map, All-we
 use Rattle.std.proofs.lemmas.List.Sorted.{All-permutation, Contains-permutation, IsPermutation-sym, sum_by-IsPermutation}
 use Rattle.rj_settings.specs.declared.choice.RowOrder.{RowOrder}
 use Rattle.rj_engine.specs.declared.joined.JoinedRow.{JoinedRow}
-use Rattle.rj_merge.specs.Copies.{AreAlike, Copied, IsWhole, StandsTooOften, times}
-use Rattle.rj_merge.specs.Places.{place_order}
-use Rattle.rj_merge.specs.Wholes.{HasPlace, IsMergeOf, RisesFrom}
-use Rattle.rj_merge.specs.declared.place.Place.{Place}
-use Rattle.rj_merge.specs.declared.place.Placed.{Placed}
+use Rattle.rj_shards.specs.Copies.{AreAlike, Copied, IsWhole, StandsTooOften, times}
+use Rattle.rj_shards.specs.Places.{place_order}
+use Rattle.rj_shards.specs.Wholes.{HasPlace, IsMergeOf, RisesFrom}
+use Rattle.rj_shards.specs.declared.merge.place.Place.{Place}
+use Rattle.rj_shards.specs.declared.merge.place.Placed.{Placed}
 use Rattle.rj_shards.specs.Rows.{place_of}
 use Rattle.rj_shards.proofs.Counted.{count_map, counted, found}
 use Rattle.rj_shards.proofs.Needed.{IsNeeded, at_itself, is_at, same_member}

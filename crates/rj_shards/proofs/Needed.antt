@@ -14,7 +14,7 @@ use Rattle.rj_settings.specs.declared.choice.RowOrder.TheVariants.{LeftFirst, Pa
 use Rattle.rj_engine.specs.Join.{JoinedValue, rows_in}
 use Rattle.rj_engine.specs.declared.joined.JoinedRow.{JoinedRow}
 use Rattle.rj_engine.specs.declared.joined.JoinedRow.TheVariants.{Both, LeftOnly, RightOnly}
-use Rattle.rj_merge.specs.Places.{place_order, place_total}
+use Rattle.rj_shards.specs.Places.{place_order, place_total}
 use Rattle.rj_shards.specs.Rows.{place_of}
 use Rattle.rj_shards.proofs.Counted.{all_counted, count_append, count_filter, count_map, count_none, count_one_of, counted_all}
 use Rattle.rj_shards.proofs.LoneCounts.{often, often_lone}

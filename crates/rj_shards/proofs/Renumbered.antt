@@ -7,13 +7,13 @@ use Rattle.std.proofs.lemmas.Bool.{cases_order}
 use Rattle.std.proofs.lemmas.Bool.Decides.{nat_tests}
 use Rattle.std.proofs.lemmas.List.Elements.{All-map, All-weaker}
 use Rattle.std.proofs.lemmas.List.Folds.{flat_map-map}
-use Rattle.rj_merge.specs.Copies.{Copied, IsWhole, StandsTooOften, copied, copied_rows, copy_of, needed, times}
-use Rattle.rj_merge.specs.declared.copies.Copies.{Copies}
-use Rattle.rj_merge.specs.declared.place.Place.{Place}
-use Rattle.rj_merge.specs.declared.place.Place.TheVariants.{Pair, LoneAmongPairs, LoneLeft, LoneRight}
-use Rattle.rj_merge.specs.declared.place.Placed.{Placed}
-use Rattle.rj_merge.specs.Places.{place_order}
-use Rattle.rj_merge.specs.Wholes.{HasPlace, IsMergeOf, RisesFrom}
+use Rattle.rj_shards.specs.Copies.{Copied, IsWhole, StandsTooOften, copied, copied_rows, copy_of, needed, times}
+use Rattle.rj_shards.specs.declared.merge.copies.Copies.{Copies}
+use Rattle.rj_shards.specs.declared.merge.place.Place.{Place}
+use Rattle.rj_shards.specs.declared.merge.place.Place.TheVariants.{Pair, LoneAmongPairs, LoneLeft, LoneRight}
+use Rattle.rj_shards.specs.declared.merge.place.Placed.{Placed}
+use Rattle.rj_shards.specs.Places.{place_order}
+use Rattle.rj_shards.specs.Wholes.{HasPlace, IsMergeOf, RisesFrom}
 use Rattle.rj_shards.proofs.Counted.{count_map}
 use Rattle.rj_shards.proofs.Together.{Contains-map, Contains-map_back, map_flat, map_map}
 use Rattle.rj_shards.specs.Renumbered.{Rises, all_renumbered, inputs_renumbered, renumbered, renumbered_place}

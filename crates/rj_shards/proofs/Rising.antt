@@ -9,11 +9,11 @@ use Rattle.std.proofs.lemmas.Bool.{false≢true}
 use Rattle.std.proofs.lemmas.Bool.Decides.{nat_tests}
 use Rattle.std.proofs.lemmas.List.Elements.{All-cons, All-nil}
 use Rattle.rj_settings.specs.declared.choice.RowOrder.TheVariants.{PairsFirst}
-use Rattle.rj_merge.specs.declared.place.Place.{Place}
-use Rattle.rj_merge.specs.declared.place.Place.TheVariants.{Pair, LoneAmongPairs, LoneLeft, LoneRight}
-use Rattle.rj_merge.specs.declared.place.Placed.{Placed}
-use Rattle.rj_merge.specs.Places.{place_order, place_total}
-use Rattle.rj_merge.specs.Wholes.{RisesFrom}
+use Rattle.rj_shards.specs.declared.merge.place.Place.{Place}
+use Rattle.rj_shards.specs.declared.merge.place.Place.TheVariants.{Pair, LoneAmongPairs, LoneLeft, LoneRight}
+use Rattle.rj_shards.specs.declared.merge.place.Placed.{Placed}
+use Rattle.rj_shards.specs.Places.{place_order, place_total}
+use Rattle.rj_shards.specs.Wholes.{RisesFrom}
 use Rattle.rj_engine.specs.declared.joined.JoinedRow.TheVariants.{Both, LeftOnly, RightOnly}
 use Rattle.rj_engine.specs.Join.{JoinedValue, pairs, product, row_of, absent, rows_in}
 use Rattle.rj_hashjoin.specs.Joining.{cross, kept_of}

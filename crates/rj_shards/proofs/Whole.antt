@@ -21,10 +21,10 @@ use Rattle.rj_engine.specs.declared.joined.JoinedRow.TheVariants.{Both, LeftOnly
 use Rattle.rj_engine.specs.declared.origin.Origin.{Origin}
 use Rattle.rj_engine.specs.declared.origin.Origin.TheVariants.{Coalesced, Left, Right}
 use Rattle.rj_engine.proofs.ChosenFacts.{all_columns, all_rows as all_rows_of}
-use Rattle.rj_merge.specs.Wholes.{RisesFrom}
-use Rattle.rj_merge.specs.declared.place.Place.{Place}
-use Rattle.rj_merge.specs.declared.place.Place.TheVariants.{LoneAmongPairs, LoneLeft, LoneRight}
-use Rattle.rj_merge.specs.declared.place.Placed.{Placed}
+use Rattle.rj_shards.specs.Wholes.{RisesFrom}
+use Rattle.rj_shards.specs.declared.merge.place.Place.{Place}
+use Rattle.rj_shards.specs.declared.merge.place.Place.TheVariants.{LoneAmongPairs, LoneLeft, LoneRight}
+use Rattle.rj_shards.specs.declared.merge.place.Placed.{Placed}
 use Rattle.rj_shards.specs.Renumbered.{Rises, renumbered_place}
 use Rattle.rj_shards.specs.Rows.{member_back, place_of, placed, placed_at, placed_rows}
 use Rattle.rj_shards.proofs.Together.{all_members, map_map}

@@ -1,9 +1,9 @@
 -- Rows of two tables that are numbered by places which rise, in place of 0, 1, 2 and so on.
 use Rattle.std.specs.Prelude.{ℕ, ◌<◌, List, map}
-use Rattle.rj_merge.specs.declared.copies.Copies.{Copies}
-use Rattle.rj_merge.specs.declared.place.Place.{Place}
-use Rattle.rj_merge.specs.declared.place.Place.TheVariants.{Pair, LoneAmongPairs, LoneLeft, LoneRight}
-use Rattle.rj_merge.specs.declared.place.Placed.{Placed}
+use Rattle.rj_shards.specs.declared.merge.copies.Copies.{Copies}
+use Rattle.rj_shards.specs.declared.merge.place.Place.{Place}
+use Rattle.rj_shards.specs.declared.merge.place.Place.TheVariants.{Pair, LoneAmongPairs, LoneLeft, LoneRight}
+use Rattle.rj_shards.specs.declared.merge.place.Placed.{Placed}
 
 -- later rows have greater numbers
 abbrev pub Rises : (ℕ → ℕ) → Type 0

@@ -11,10 +11,10 @@ use Rattle.rj_engine.specs.Results.{result_of}
 use Rattle.rj_shards.specs.Shards.{IsLawful, left_shard, places, right_shard, rows_at}
 use Rattle.rj_engine.specs.declared.joined.JoinedRow.{JoinedRow}
 use Rattle.rj_engine.specs.declared.joined.JoinedRow.TheVariants.{Both, LeftOnly, RightOnly}
-use Rattle.rj_merge.specs.Places.{lone_left_place}
-use Rattle.rj_merge.specs.declared.place.Place.{Place}
-use Rattle.rj_merge.specs.declared.place.Place.TheVariants.{Pair, LoneRight}
-use Rattle.rj_merge.specs.declared.place.Placed.{Placed}
+use Rattle.rj_shards.specs.Places.{lone_left_place}
+use Rattle.rj_shards.specs.declared.merge.place.Place.{Place}
+use Rattle.rj_shards.specs.declared.merge.place.Place.TheVariants.{Pair, LoneRight}
+use Rattle.rj_shards.specs.declared.merge.place.Placed.{Placed}
 
 -- where a member is in a joined table of this order: by the numbers of its rows
 abbrev pub place_of : RowOrder → JoinedRow → Place

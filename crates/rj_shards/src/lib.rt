@@ -3,11 +3,12 @@
 //! alone, whole or in pieces. The merge of what the shards give is the joined table of SQL-92
 //! (7.5).
 //!
-//! [`division`] divides the rows of a text among parts.
+//! [`merge`] merges what the shards give. [`division`] divides the rows of a text among parts.
 #![tactic(auto)]
 
 pub mod division;
 mod laws;
+pub mod merge;
 mod route;
 mod shards;
 

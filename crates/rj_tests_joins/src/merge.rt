@@ -2,7 +2,7 @@
 
 use rj_csv_io::strict::Delimiter;
 use rj_csv_io::{CountedWriter, RetryingReader};
-use rj_merge::{
+use rj_shards::merge::{
     Copies, MergeInput, MergeOptions, MergeRefused, MergeTextsRefused, RowOrder, merge_texts,
 };
 use std::alloc::Global;

@@ -3,9 +3,9 @@ use Rattle.std.proofs.lemmas.List.{length-map}
 use Rattle.clap.specs.Words.{Text}
 use Rattle.merges.proofs.RefusalFacts.{failed_output, output_failed}
 use Rattle.merges.specs.Merges.{names}
-use Rattle.rj_merge.specs.Inputs.{is_input}
-use Rattle.rj_merge.specs.Sources.{TellsAmong}
-use Rattle.rj_merge.specs.declared.refused.MergeTextsRefused.TheVariants as refused
+use Rattle.rj_shards.specs.Inputs.{is_input}
+use Rattle.rj_shards.specs.Sources.{TellsAmong}
+use Rattle.rj_shards.specs.declared.merge.refused.MergeTextsRefused.TheVariants as refused
 use Rattle.merges.proofs.merging.merge_line.Goals as goal
 
 pub returns-in-Ok-clause-merge : goal.returns-in-Ok-clause-merge

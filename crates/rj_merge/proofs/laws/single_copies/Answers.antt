@@ -1,5 +1,0 @@
-use Rattle.rj_merge.proofs.CopyLaws.{single_all, single_merge, single_twice}
-use Rattle.rj_merge.proofs.laws.single_copies.Goals as goal
-
-pub returns : goal.returns
-returns g c = record { all = single_all; merge = single_merge; twice = single_twice }
