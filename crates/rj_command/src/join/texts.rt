@@ -20,7 +20,7 @@ use rj_csv_io::{
     FirstColumns, Output, OutputFormat, RowEnds, WriteRefused, texts_of_rows, texts_with_ends,
     write_rows_in_parts, write_texts,
 };
-use rj_engine::{Joined, Run, RunView, Shown, cut_runs, right_rows};
+use rj_engine::{Joined, OwnRun, Run, RunView, Shown, cut_runs, own_run, right_rows};
 use rj_line::fault::texts_of;
 use std::alloc::{AllocError, Global};
 use std::sync::atomic::{AtomicU64, Ordering};
@@ -33,7 +33,16 @@ const SHARE_ROWS: u64 = 98_304;
 // The texts of consecutive rows, one after another.
 type Texts = Vec<Vec<u8>>;
 
-/// What is written of a joined table, but for its left table: the rows that are shown of it, under
+/// What is freed as the rows that are shown are written: the left table, the members of the joined
+/// table, and what is shown of it.
+#[derive(Drop)]
+pub(crate) struct ShownJoin {
+    pub(crate) left: Table,
+    pub(crate) joined: Joined,
+    pub(crate) shown: Shown,
+}
+
+/// How the rows that are shown of a joined table are written: with the cells of its right table, under
 /// these names, with this delimiter and this text for NULL. At most `workers` threads make their
 /// texts, the calling one among them. If the left table is taken apart, the left rows whose texts
 /// are made are added to `made`. If the texts of the rows' ends are there, each row is written as its
@@ -42,18 +51,23 @@ type Texts = Vec<Vec<u8>>;
 pub(crate) struct Written<'a> {
     pub(crate) names: &'a [String],
     pub(crate) right: &'a Table,
-    pub(crate) joined: &'a Joined,
-    pub(crate) shown: &'a Shown,
     pub(crate) format: OutputFormat<'a>,
     pub(crate) workers: usize,
     pub(crate) made: Option<&'a AtomicU64>,
     pub(crate) ends: &'a Option<Ends>,
 }
 
-// A segment of the left table until the texts of its runs are made, and then these texts.
+// A segment of the left table, and its runs in their order.
+#[derive(Drop)]
+struct Part {
+    segment: Table,
+    runs: Vec<OwnRun>,
+}
+
+// A part until the texts of its runs are made, and then these texts.
 #[derive(Drop)]
 struct Share {
-    segment: Option<Table>,
+    part: Option<Part>,
     texts: Result<Vec<Texts>, AllocError>,
 }
 
@@ -61,15 +75,15 @@ struct Share {
 fn texts_by_ends(
     alloc: Global,
     segment: &Table,
-    run: Run,
+    own: &OwnRun,
     written: &Written<'_>,
     ends: &Ends,
 ) -> Result<Texts, AllocError>
-    requires within { IsRunWithin segment.now written.now.right.now written.now.joined.now.members written.now.shown.now run }
-    requires ends { AreEndsOf written.now.format.delimiter written.now.format.null.now written.now.shown.now written.now.right.now ends.now }
-    ensures { IfOk result (λ v. whole_text v ≡ run_text written.now segment.now run) }
+    requires within { IsRunWithin segment.now written.now.right.now own.now.joined.members own.now.shown own.now.run }
+    requires ends { AreEndsOf written.now.format.delimiter written.now.format.null.now own.now.shown written.now.right.now ends.now }
+    ensures { IfOk result (λ v. whole_text v ≡ own_text written.now segment.now own.now) }
 {
-    let (right, joined, shown) = (written.right, written.joined, written.shown);
+    let (right, joined, shown, run) = (written.right, &own.joined, &own.shown, own.run);
     let numbers = right_rows(alloc, joined, shown, run, right.rows() as u32)?;
     let rows = RunView::open(segment, right, joined, shown, run);
     let fronts = FirstColumns {
@@ -87,38 +101,36 @@ fn texts_by_ends(
 fn texts_of_run(
     alloc: Global,
     segment: &Table,
-    run: Run,
+    own: &OwnRun,
     written: &Written<'_>,
 ) -> Result<Texts, AllocError>
-    requires within { IsRunWithin segment.now written.now.right.now written.now.joined.now.members written.now.shown.now run }
-    requires ends { HasEnds written.now }
-    ensures { IfOk result (λ v. whole_text v ≡ run_text written.now segment.now run) }
+    requires { IsWithin written.now segment.now own.now }
+    ensures { IfOk result (λ v. whole_text v ≡ own_text written.now segment.now own.now) }
 {
     match written.ends {
-        Some(ends) => texts_by_ends(alloc, segment, run, written, ends),
+        Some(ends) => texts_by_ends(alloc, segment, own, written, ends),
         None => {
-            let rows = RunView::open(segment, written.right, written.joined, written.shown, run);
+            let (joined, shown) = (&own.joined, &own.shown);
+            let rows = RunView::open(segment, written.right, joined, shown, own.run);
             texts_of_rows(alloc, &rows, &written.format)
         }
     }
 }
 
-// The texts of the runs that are in a segment of the left table, in their order.
+// The texts of the runs of a segment of the left table, in their order. Each run is freed as soon
+// as its texts are made.
 fn texts_of_segment(
     alloc: Global,
     segment: &Table,
-    number: usize,
+    runs: Vec<OwnRun>,
     written: &Written<'_>,
-    runs: &[Run],
 ) -> Result<Vec<Texts>, AllocError>
-    requires { AreWithin written.now segment.now number runs.now }
-    ensures { IfOk result (AreRunTexts written.now segment.now number runs.now) }
+    requires { All (IsWithin written.now segment.now) runs.items }
+    ensures { IfOk result (λ v. map whole_text v.items ≡ map (own_text written.now segment.now) runs.items) }
 {
     let mut texts = Vec::new(alloc);
     for run in runs {
-        if run.segment() == number {
-            texts.push(texts_of_run(alloc, segment, *run, written)?)?;
-        }
+        texts.push(texts_of_run(alloc, segment, &run, written)?)?;
     }
     Ok(texts)
 }
@@ -130,26 +142,57 @@ fn count_made(written: &Written<'_>, rows: u64) {
     }
 }
 
-// Makes the texts of the runs that are in a segment, and frees the segment.
-fn make_texts(alloc: Global, share: &mut Share, number: usize, written: &Written<'_>, runs: &[Run])
-    requires { ForSome share.old.segment (λ t. AreWithin written.now t number runs.now) }
-    ensures { IfSome share.old.segment (λ t. IfOk share.new.texts (AreRunTexts written.now t number runs.now)) }
+// Makes the texts of the runs of a segment, and frees the segment.
+fn make_texts(alloc: Global, share: &mut Share, written: &Written<'_>)
+    requires { ForSome share.old.part (IsPartWithin written.now) }
+    ensures { IfSome share.old.part (λ p. IfOk share.new.texts (λ v. map whole_text v.items ≡ part_texts written.now p)) }
 {
-    let Some(segment) = share.segment.take() else {
+    let Some(part) = share.part.take() else {
         return;
     };
-    share.texts = texts_of_segment(alloc, &segment, number, written, runs);
+    let Part { segment, runs } = part;
+    share.texts = texts_of_segment(alloc, &segment, runs, written);
     count_made(written, segment.rows());
 }
 
-// A share for each segment, whose texts aren't made yet.
-fn shares_of(alloc: Global, segments: Vec<Table>) -> Result<Vec<Share>, AllocError>
-    ensures { IfOk result (λ v. map (λ s. s.segment) v.items ≡ map (λ t. Some t) segments.items) }
+// The runs that are in a segment, each with members of its own.
+fn runs_of_segment(
+    alloc: Global,
+    joined: &Joined,
+    shown: &Shown,
+    runs: &[Run],
+    number: usize,
+) -> Result<Vec<OwnRun>, AllocError>
+    requires { All (IsCutOf shown.now joined.now.members) runs.now }
+    ensures { IfOk result (λ v. AreOwnRuns shown.now joined.now.members (filter (is_of number) runs.now) v.items) }
+{
+    let mut own = Vec::new(alloc);
+    for run in runs {
+        if run.segment() == number {
+            own.push(own_run(alloc, joined, shown, *run)?)?;
+        }
+    }
+    Ok(own)
+}
+
+// A share for each segment, with its runs, whose texts aren't made yet. What the runs were cut from
+// is freed.
+fn shares_of(
+    alloc: Global,
+    segments: Vec<Table>,
+    joined: Joined,
+    shown: Shown,
+    runs: &[Run],
+) -> Result<Vec<Share>, AllocError>
+    requires { All (IsCutOf shown joined.members) runs.now }
+    ensures { IfOk result (λ v. AreShares segments.items shown joined.members runs.now v.items) }
 {
     let mut shares = Vec::with_capacity(alloc, segments.len())?;
     for segment in segments {
+        let own = runs_of_segment(alloc, &joined, &shown, runs, shares.len())?;
+        let part = Part { segment, runs: own };
         shares.push(Share {
-            segment: Some(segment),
+            part: Some(part),
             texts: Err(AllocError),
         })?;
     }
@@ -162,7 +205,7 @@ fn all_made(alloc: Global, shares: Vec<Share>) -> Result<Vec<Vec<Texts>>, AllocE
 {
     let mut made = Vec::with_capacity(alloc, shares.len())?;
     for share in shares {
-        let Share { segment: _, texts } = share;
+        let Share { part: _, texts } = share;
         made.push(texts?)?;
     }
     Ok(made)
@@ -213,44 +256,23 @@ fn make_shares<R: Threads + Sync>(
     alloc: Global,
     shares: Vec<Share>,
     written: &Written<'_>,
-    runs: &[Run],
 ) -> Vec<Share>
     requires workers { 0 < written.now.workers }
-    requires within { (k : ℕ) (d : Share) → k < length shares.items
-        → ForSome (slice_index_or shares.items k d).segment (λ t. AreWithin written.now t k runs.now) }
+    requires within { (k : ℕ) (d : Share) → k < length shares.items → ForSome (slice_index_or shares.items k d).part (IsPartWithin written.now) }
     ensures many { length result.items ≡ length shares.items }
-    ensures each { (k : ℕ) (d : Share) → k < length shares.items → IfSome (slice_index_or shares.items k d).segment (λ t.
-        IfOk (slice_index_or result.items k d).texts (AreRunTexts written.now t k runs.now)) }
+    ensures each { (k : ℕ) (d : Share) → k < length shares.items → IfSome (slice_index_or shares.items k d).part (λ p.
+        IfOk (slice_index_or result.items k d).texts (λ v. map whole_text v.items ≡ part_texts written.now p)) }
 {
     // (what `thread::join` calls tells what it ensures only where it captures plain references)
     call_each_elsewhere(
         rt,
         shares,
         written.workers,
-        &|number, share: &mut Share|
-            requires { ForSome share.now.segment (λ t. AreWithin written.now t number runs.now) }
-            ensures { IfSome share.entry.now.segment (λ t. IfOk share.exit.now.texts (AreRunTexts written.entry.now t number runs.entry.now)) }
-        { make_texts(alloc, share, number, written, runs) },
+        &|_number, share: &mut Share|
+            requires { ForSome share.now.part (IsPartWithin written.now) }
+            ensures { IfSome share.entry.now.part (λ p. IfOk share.exit.now.texts (λ v. map whole_text v.items ≡ part_texts written.entry.now p)) }
+        { make_texts(alloc, share, written) },
     )
-}
-
-// The texts of the runs of each segment.
-fn texts_of_segments<R: Threads + Sync>(
-    rt: &R,
-    alloc: Global,
-    segments: Vec<Table>,
-    written: &Written<'_>,
-    runs: &[Run],
-) -> Result<Vec<Vec<Texts>>, AllocError>
-    requires workers { 0 < written.now.workers }
-    requires within { (k : ℕ) → k < length segments.items
-        → AreWithin written.now (slice_index_or segments.items k no_table) k runs.now }
-    ensures { IfOk result (λ v. (length v.items ≡ length segments.items)
-        × AreTextsOf (text_in written.now segments.items) runs.now v.items) }
-{
-    let shares = shares_of(alloc, segments)?;
-    let made = make_shares(rt, alloc, shares, written, runs);
-    all_made(alloc, made)
 }
 
 // The texts of the runs, in the runs' order: those of each segment are in the order of its runs.
@@ -268,42 +290,33 @@ fn in_order(alloc: Global, mut made: Vec<Vec<Texts>>, runs: &[Run]) -> Result<Te
     Ok(texts)
 }
 
-// The texts of the runs of these segments, in the runs' order.
-fn texts_of_runs<R: Threads + Sync>(
-    rt: &R,
-    alloc: Global,
-    segments: Vec<Table>,
-    written: &Written<'_>,
-    runs: &[Run],
-) -> Result<Texts, AllocError>
-    requires workers { 0 < written.now.workers }
-    requires segments { All (λ run. run.segment < length segments.items) runs.now }
-    requires within { (k : ℕ) → k < length segments.items
-        → AreWithin written.now (slice_index_or segments.items k no_table) k runs.now }
-    ensures { IfOk result (λ v. whole_text v ≡ concat (map (text_in written.now segments.items) runs.now)) }
-{
-    let made = texts_of_segments(rt, alloc, segments, written, runs)?;
-    in_order(alloc, made, runs)
-}
-
 // The texts of the rows that are shown, one after another. The left table is taken apart into
-// segments of at most 65,536 rows. A thread takes segments one after another, and frees each as soon
-// as the texts of its rows are there. It fails only when memory runs out.
+// segments of at most 65,536 rows, and the joined table into the runs of these segments. A thread
+// takes segments one after another, and frees each as soon as the texts of its rows are there. It
+// fails only when memory runs out.
 fn texts_of_joined<R: Threads + Sync>(
     rt: &R,
     alloc: Global,
-    left: Table,
+    source: ShownJoin,
     written: &Written<'_>,
 ) -> Result<Texts, AllocError>
     requires workers { 0 < written.now.workers }
-    requires shown { AreShownOf written.now left }
-    requires ends { HasEnds written.now }
-    ensures { IfOk result (λ v. whole_text v ≡ cells_text written.now.format.delimiter written.now.format.null.now (shown_cells written.now left)) }
+    requires shown { AreShownOf written.now source }
+    requires ends { HasEnds written.now source.shown }
+    ensures { IfOk result (λ v. whole_text v ≡ cells_text written.now.format.delimiter written.now.format.null.now (shown_cells written.now source)) }
 {
+    let ShownJoin {
+        left,
+        joined,
+        shown,
+    } = source;
     let _rows = left.rows();
     let segments = left.into_segments(alloc)?;
-    let runs = cut_runs(alloc, &segments, written.joined, written.shown)?;
-    texts_of_runs(rt, alloc, segments, written, &runs)
+    let runs = cut_runs(alloc, &segments, &joined, &shown)?;
+    let shares = shares_of(alloc, segments, joined, shown, &runs)?;
+    let shares = make_shares(rt, alloc, shares, written);
+    let made = all_made(alloc, shares)?;
+    in_order(alloc, made, &runs)
 }
 
 // Writes a header and then the rows that are shown. Their texts are made segment by segment of the
@@ -313,18 +326,18 @@ fn write_segments<R: Threads + Sync, O: Output>(
     alloc: Global,
     writer: &mut O,
     header: &[&str],
-    left: Table,
+    source: ShownJoin,
     written: &Written<'_>,
 ) -> Result<(), WriteRefused>
     requires workers { 0 < written.now.workers }
-    requires shown { AreShownOf written.now left }
-    requires ends { HasEnds written.now }
+    requires shown { AreShownOf written.now source }
+    requires ends { HasEnds written.now source.shown }
     ensures ok { OnOk result (Appends (O.told writer.old) (O.told writer.new)
-        (table_text written.now.format.delimiter written.now.format.null.now (map (λ n. n.now) header.now) (shown_cells written.now left))) }
+        (table_text written.now.format.delimiter written.now.format.null.now (map (λ n. n.now) header.now) (shown_cells written.now source))) }
     ensures memory { result ≡ Err WriteRefused.Memory → writer.new ≡ writer.old }
     ensures count { CountsFailure result WriteRefused.WriteDevice (O.count writer.new) (O.count writer.old) }
 {
-    let Ok(texts) = texts_of_joined(rt, alloc, left, written) else {
+    let Ok(texts) = texts_of_joined(rt, alloc, source, written) else {
         return Err(WriteRefused::Memory);
     };
     write_texts(
@@ -342,18 +355,18 @@ fn write_whole<R: Threads + Sync, O: Output>(
     alloc: Global,
     writer: &mut O,
     header: &[&str],
-    left: &Table,
+    source: &ShownJoin,
     written: &Written<'_>,
 ) -> Result<(), WriteRefused>
-    requires shown { AreShownOf written.now left.now }
-    requires header { length header.now ≡ length written.now.shown.now.origins.items }
+    requires shown { AreShownOf written.now source.now }
+    requires header { length header.now ≡ length source.now.shown.origins.items }
     requires null { IsTrue (is_null_text written.now.format.null.now) }
     ensures ok { OnOk result (Appends (O.told writer.old) (O.told writer.new)
-        (table_text written.now.format.delimiter written.now.format.null.now (map (λ n. n.now) header.now) (shown_cells written.now left.now))) }
+        (table_text written.now.format.delimiter written.now.format.null.now (map (λ n. n.now) header.now) (shown_cells written.now source.now))) }
     ensures memory { result ≡ Err WriteRefused.Memory → writer.new ≡ writer.old }
     ensures count { CountsFailure result WriteRefused.WriteDevice (O.count writer.new) (O.count writer.old) }
 {
-    let rows = RunView::whole(left, written.right, written.joined, written.shown);
+    let rows = RunView::whole(&source.left, written.right, &source.joined, &source.shown);
     let (format, workers) = (&written.format, written.workers);
     write_rows_in_parts(rt, alloc, writer, header, &rows, format, workers)
 }
@@ -365,8 +378,8 @@ pub(crate) fn has_shares(left: &Table, workers: usize) -> bool {
 
 /// Writes the names as a header, and then the rows that are shown of the joined table of two tables.
 /// All texts are made before the first is put. A left table of many rows is freed segment by segment,
-/// as the texts of its rows are made. If it has few, the rows are divided evenly among the threads,
-/// unless the texts of the rows' ends are there.
+/// and the joined table with it, as the texts of its rows are made. If it has few, the rows are
+/// divided evenly among the threads, unless the texts of the rows' ends are there.
 ///
 /// # Errors
 ///
@@ -376,15 +389,15 @@ pub(crate) fn write_shown<R: Threads + Sync, O: Output>(
     rt: &R,
     alloc: Global,
     writer: &mut O,
-    left: Table,
+    source: ShownJoin,
     written: &Written<'_>,
 ) -> Result<(), WriteRefused>
-    requires shown { AreShownOf written.now left }
-    requires ends { HasEnds written.now }
-    requires names { length written.now.names.now ≡ length written.now.shown.now.origins.items }
+    requires shown { AreShownOf written.now source }
+    requires ends { HasEnds written.now source.shown }
+    requires names { length written.now.names.now ≡ length source.shown.origins.items }
     requires null { IsTrue (is_null_text written.now.format.null.now) }
     ensures ok { OnOk result (Appends (O.told writer.old) (O.told writer.new)
-        (table_text written.now.format.delimiter written.now.format.null.now (map string_bytes written.now.names.now) (shown_cells written.now left))) }
+        (table_text written.now.format.delimiter written.now.format.null.now (map string_bytes written.now.names.now) (shown_cells written.now source))) }
     ensures memory { result ≡ Err WriteRefused.Memory → writer.new ≡ writer.old }
     ensures count { CountsFailure result WriteRefused.WriteDevice (O.count writer.new) (O.count writer.old) }
 {
@@ -392,8 +405,9 @@ pub(crate) fn write_shown<R: Threads + Sync, O: Output>(
         return Err(WriteRefused::Memory);
     };
     let header = header.as_slice();
-    if written.workers > 0 && (written.ends.is_some() || has_shares(&left, written.workers)) {
-        return write_segments(rt, alloc, writer, header, left, written);
+    let workers = written.workers;
+    if workers > 0 && (written.ends.is_some() || has_shares(&source.left, workers)) {
+        return write_segments(rt, alloc, writer, header, source, written);
     }
-    write_whole(rt, alloc, writer, header, &left, written)
+    write_whole(rt, alloc, writer, header, &source, written)
 }
