@@ -4,6 +4,7 @@ use Rattle.std.specs.Prelude.{◌≡◌, ℕ, ◌+◌, ◌-◌, ◌<◌, ◌≤�
 use Rattle.rj_columns.specs.Tables.{TableValue, rows_of_all}
 use Rattle.rj_engine.specs.declared.joined.JoinedRow.{JoinedRow}
 use Rattle.rj_engine.specs.declared.joined.JoinedRow.TheVariants.{Both, LeftOnly, RightOnly}
+use Rattle.rj_engine.specs.declared.own_run.OwnRun.{OwnRun}
 use Rattle.rj_engine.specs.declared.runs.Run.{Run}
 use Rattle.rj_engine.specs.declared.shown.Shown.{Shown}
 use Rattle.rj_engine.specs.Cells.{ViewValue, joined_cells, shown_scale, IsColumnOf, IsMemberOf}
@@ -56,6 +57,14 @@ run_view s t r v run = record {
 abbrev pub IsRunWithin : TableValue → TableValue → JoinedValue → Shown → Run → Type 0
 IsRunWithin t r v s run =
     (run.from ≤ run.to) × (run.to ≤ length (shown_rows s.chosen v)) × All (IsMemberOf t r) (run_rows s v run) × HasColumnsOf t r s
+
+-- a run of its own has the members of a run of a joined table, all of its own ones, and the same columns
+pub record IsOwnRunOf (s : Shown) (v : JoinedValue) (run : Run) (o : OwnRun) : Type 0 where
+  pub rows : run_rows o.shown o.joined.members o.run ≡ run_rows s v run
+  pub origins : o.shown.origins.items ≡ s.origins.items
+  pub scales : o.shown.scales.items ≡ s.scales.items
+  pub order : o.run.from ≤ o.run.to
+  pub to : o.run.to ≤ length (shown_rows o.shown.chosen o.joined.members)
 
 -- the number of the first row of a segment
 abbrev pub start_of : List TableValue → ℕ → ℕ

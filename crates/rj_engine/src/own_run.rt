@@ -43,7 +43,10 @@ pub fn own_run(
         to: to - from,
     };
     let (members, chosen) = match &shown.chosen {
-        Some(rows) => (joined.part(alloc, 0, 0)?, Some(rows[from..to].to_vec(alloc)?)),
+        Some(rows) => (
+            joined.part(alloc, 0, 0)?,
+            Some(rows[from..to].to_vec(alloc)?),
+        ),
         None => (joined.part(alloc, from, to)?, None),
     };
     Ok(OwnRun {
