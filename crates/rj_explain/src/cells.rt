@@ -10,9 +10,10 @@ ghost use Rattle.rj_explain.specs.Places.{HasNoRow, IsRow};
 
 use crate::inputs::{TableFile, text_of};
 use crate::row::{Row, field_at, find_row};
-use crate::shown::{Shown, Wanted, WantedRule};
+use crate::shown::{Wanted, WantedRule};
 use rj_columns::ColumnType;
 use rj_csv_io::strict::Delimiter;
+use rj_line::shown::Shown;
 use std::alloc::{AllocError, Global};
 
 /// The type of a header's column, counted from 1.

@@ -13,7 +13,6 @@ ghost use Rattle.rj_explain.specs.Unknown.{IsBareTold, IsBehindTold, IsLackTold,
 
 use crate::hints::separator_lines;
 use crate::inputs::Inputs;
-use crate::shown::Shown;
 use crate::unknown::{
     IN_BOTH, side_of_case, words_of_case, words_of_lacking, words_of_neither, words_of_table,
 };
@@ -21,6 +20,7 @@ use rj_columns::Table;
 use rj_condition::{BindRefused, Name, RefusedColumn, Word, refused_column};
 use rj_csv_io::{Header, ReadRefused};
 use rj_line::fault::Side;
+use rj_line::shown::Shown;
 use std::alloc::{AllocError, Global};
 
 // The most bytes of a clause.

@@ -12,12 +12,12 @@ use crate::cells::kind_at;
 use crate::inputs::{Inputs, text_of};
 use crate::places::{first_record, line_from, place_of_row};
 use crate::row::{Row, field_at, find_row};
-use crate::shown::Shown;
 use rj_columns::ColumnType;
 use rj_columns::decimal::read_numeric;
 use rj_csv_io::strict::Delimiter;
 use rj_csv_io::{Header, is_null_field};
 use rj_line::fault::{Fault, Side};
+use rj_line::shown::Shown;
 use std::alloc::{AllocError, Global};
 use std::str;
 

@@ -15,8 +15,8 @@ ghost use Rattle.rj_explain.specs.Places.{at_column};
 use crate::inputs::TableFile;
 use crate::names::before_name;
 use crate::row::field_at;
-use crate::shown::Shown;
 use rj_csv_io::Header;
+use rj_line::shown::Shown;
 use rj_settings::types::{Label, TypeEntry, types_under};
 use std::alloc::{AllocError, Global};
 

@@ -18,12 +18,12 @@ use crate::clause::{BothColumns, columns_of_both};
 use crate::hints::separator_lines;
 use crate::inputs::Inputs;
 use crate::joined::join_of;
-use crate::shown::Shown;
 use crate::unknown::{IN_BOTH, side_of_case, words_of_case, words_of_neither, words_of_table};
 use rj_columns::Table;
 use rj_condition::{BoundJoin, Name};
 use rj_engine::header;
 use rj_line::fault::Side;
+use rj_line::shown::Shown;
 use rj_settings::{ColumnChoice, SelectedColumn, Source};
 use std::alloc::{AllocError, Global};
 

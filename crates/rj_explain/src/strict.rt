@@ -15,9 +15,9 @@ ghost use Rattle.rj_explain.specs.Strict.{IsFaultLine};
 use crate::inputs::TableFile;
 use crate::places::line_feeds;
 use crate::row::field_at;
-use crate::shown::Shown;
 use rj_csv_io::strict::{Delimiter, HeaderPlace, above_fault, check};
 use rj_csv_io::{Header as Names, without_bom};
+use rj_line::shown::Shown;
 use std::alloc::{AllocError, Global};
 
 /// The line, counted from 1, on which the row begins in which a text stops being of the grammar

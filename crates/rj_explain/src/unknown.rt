@@ -7,9 +7,9 @@ ghost use Rattle.rj_explain.specs.Unknown.{IsMeantOfBoth, IsNeitherTold, IsSideT
 
 use crate::clause::BothColumns;
 use crate::names::{Meant, NamesOf, nearest};
-use crate::shown::Shown;
 use rj_columns::Table;
 use rj_line::fault::Side;
+use rj_line::shown::Shown;
 use std::alloc::{AllocError, Global};
 
 /// What is said of a name that both tables have.
