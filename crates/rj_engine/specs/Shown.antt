@@ -4,7 +4,7 @@ use Rattle.std.specs.Prelude.{◌≡◌, ℕ, ◌+◌, ◌-◌, ◌<◌, ◌≤�
 use Rattle.rj_columns.specs.Tables.{TableValue, rows_of_all}
 use Rattle.rj_engine.specs.declared.joined.JoinedRow.{JoinedRow}
 use Rattle.rj_engine.specs.declared.joined.JoinedRow.TheVariants.{Both, LeftOnly, RightOnly}
-use Rattle.rj_engine.specs.declared.own_run.OwnRun.{OwnRun}
+use Rattle.rj_engine.specs.declared.own_runs.OwnRun.{OwnRun}
 use Rattle.rj_engine.specs.declared.runs.Run.{Run}
 use Rattle.rj_engine.specs.declared.shown.Shown.{Shown}
 use Rattle.rj_engine.specs.Cells.{ViewValue, joined_cells, shown_scale, IsColumnOf, IsMemberOf}

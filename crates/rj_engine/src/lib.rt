@@ -15,7 +15,7 @@ mod laws;
 mod marks;
 mod naming;
 mod origin;
-mod own_run;
+mod own_runs;
 mod parallel_join;
 mod partitioned_join;
 mod partitions;
@@ -42,7 +42,7 @@ pub use laws::{
 };
 pub use marks::unmatched;
 pub use naming::{NamingRefused, chosen_names, written_names};
-pub use own_run::{OwnRun, own_run};
+pub use own_runs::{OwnRun, own_run};
 pub use partitions::run_join;
 pub use reporting::{JoinReport, report};
 pub use rj_settings::{
