@@ -1,5 +1,5 @@
 -- The texts of runs, one after another.
-use Rattle.std.proofs.Common.{◌≡◌, ◌≢◌, ℕ, suc, ◌+◌, ◌-◌, ◌<◌, ◌==◌, true, false, cond, List, [], ◌∷◌, ◌++◌, All, refl, ap, sym, subst, ◌∙◌, arith, inl, inr, length, map, take, drop, get_or, set}
+use Rattle.std.proofs.Common.{◌≡◌, ◌≢◌, ℕ, suc, ◌+◌, ◌-◌, ◌<◌, ◌==◌, true, false, cond, List, [], ◌∷◌, ◌++◌, All, refl, ap, sym, subst, ◌∙◌, arith, inl, inr, length, map, take, drop, get_or, set, absurd, tt}
 use Rattle.std.specs.Prelude.{IfOk, IfSome, Ok, Result, Some, unwrap_or}
 use Rattle.std.specs.Option.{ForSome}
 use Rattle.std.specs.List.{concat, filter}
@@ -10,8 +10,9 @@ use Rattle.std.specs.declared.vec.Vec.{Vec}
 use Rattle.std.proofs.lemmas.Bool.{cases_Bool, cases_eq}
 use Rattle.std.proofs.lemmas.Bool.Decides.{nat_tests}
 use borrow.Author.Tests.{eqb-true}
-use Rattle.std.proofs.lemmas.List.{drop_more, get_or-set_other, get_or-set_same, append-nil, get_or_default, length-map, length-set, map-append, take_all, take_more}
-use Rattle.std.proofs.lemmas.List.Elements.{All-head, All-tail}
+use Rattle.std.proofs.lemmas.List.{drop_more, get_or-set_other, get_or-set_same, append-nil, get_or_default, get_or_push, length-append, length-map, length-set, map-append, take_all, take_more}
+use Rattle.std.proofs.Math.ListN.{get_or-append}
+use Rattle.std.proofs.lemmas.List.Elements.{All-cons, All-head, All-nil, All-tail}
 use Rattle.std.proofs.lemmas.List.Folds.{concat-append}
 use Rattle.rj_columns.specs.Contents.{Content}
 use Rattle.rj_columns.specs.Tables.{TableValue, rows_of_all}
@@ -20,13 +21,21 @@ use Rattle.rj_csv_io.specs.Shown.{range_text, rows_text, table_text, writer_of}
 use Rattle.rj_csv_io.proofs.RangeFacts.{range-join, range-none}
 use Rattle.rj_engine.specs.declared.joined.JoinedRow.{JoinedRow}
 use Rattle.rj_engine.specs.declared.runs.Run.{Run}
-use Rattle.rj_engine.specs.Cells.{joined_cells}
+use Rattle.rj_engine.specs.declared.own_runs.OwnRun.{OwnRun}
+use Rattle.rj_engine.specs.declared.shown.Shown.{Shown}
+use Rattle.rj_engine.specs.Cells.{joined_cells, shown_scale, IsColumnOf, IsMemberOf}
+use Rattle.rj_engine.specs.declared.origin.Origin.TheVariants as origin
 use Rattle.rj_engine.specs.Chosen.{shown_rows}
-use Rattle.rj_engine.specs.Shown.{Follow, IsRunOf}
+use Rattle.rj_engine.specs.Join.{JoinedValue}
+use Rattle.rj_engine.specs.Shown.{Follow, HasColumnsOf, IsOwnRunOf, IsRunOf, IsRunWithin, run_rows}
 use Rattle.rj_engine.proofs.RunFacts.{run-cells, run-within}
+use Rattle.rj_command.specs.declared.join.ends.Ends.{Ends}
+use Rattle.rj_command.specs.declared.join.texts.Part.{Part}
 use Rattle.rj_command.specs.declared.join.texts.Share.{Share}
+use Rattle.rj_command.specs.declared.join.texts.ShownJoin.{ShownJoin}
 use Rattle.rj_command.specs.declared.join.texts.Written.{Written}
-use Rattle.rj_command.specs.Internal.Texts.{HasEnds, AreCounted, AreRunTexts, AreShownOf, AreTextsOf, AreWithin, cells_text, is_of, no_table, run_text, shown_cells, text_in, whole_text}
+use Rattle.rj_command.specs.Internal.Ends.{AreEndsOf}
+use Rattle.rj_command.specs.Internal.Texts.{HasEnds, AreCounted, AreOwnRuns, ArePartsOf, AreShownOf, AreTextsOf, AreTextsOfParts, IsPartWithin, IsWithin, cells_text, is_of, no_table, own_text, part_texts, run_text, shown_cells, text_in, whole_text}
 
 abbrev Texts : Type 0
 Texts = Vec (Vec ℕ Global) Global
@@ -55,51 +64,156 @@ same-texts f g k (run ∷ runs) same = elim (cases_Bool (run.segment == k)) [
 ]
 
 -- the texts of a segment's runs, by all segments
-pub texts-in : (w : Written) (segments : List TableValue) (k : ℕ) (runs : List Run)
-    → map (run_text w (get_or segments k no_table)) (filter (is_of k) runs) ≡ map (text_in w segments) (filter (is_of k) runs)
-texts-in w segments k runs =
-    same-texts (run_text w (get_or segments k no_table)) (text_in w segments) k runs (λ run is. ap (λ n. run_text w (get_or segments n no_table) run) (sym is))
+texts-in : (w : Written) (x : ShownJoin) (segments : List TableValue) (k : ℕ) (runs : List Run)
+    → map (run_text w x (get_or segments k no_table)) (filter (is_of k) runs) ≡ map (text_in w x segments) (filter (is_of k) runs)
+texts-in w x segments k runs =
+    same-texts (run_text w x (get_or segments k no_table)) (text_in w x segments) k runs (λ run is. ap (λ n. run_text w x (get_or segments n no_table) run) (sym is))
+
+-- what holds of each run of a segment
+of-segment : (P : Run → Type 0) (k : ℕ) (runs : List Run) → All (λ run. run.segment ≡ k → P run) runs → All P (filter (is_of k) runs)
+of-segment P k [] h = All-nil P
+of-segment P k (run ∷ runs) h =
+    let rest = of-segment P k runs (All-tail (λ r. r.segment ≡ k → P r) run runs h) in
+    elim (cases_Bool (run.segment == k)) [
+      | inl own ↦ subst (λ b. All P (cond b (run ∷ filter (is_of k) runs) (filter (is_of k) runs))) (sym own)
+          (All-cons P run (filter (is_of k) runs) (All-head (λ r. r.segment ≡ k → P r) run runs h (eqb-true run.segment k own)) rest)
+      | inr other ↦ subst (λ b. All P (cond b (run ∷ filter (is_of k) runs) (filter (is_of k) runs))) (sym other) rest
+    ]
+
+-- ---- runs with members of their own
+
+-- one more run
+pub own-more : (s : Shown) (v : JoinedValue) (runs : List Run) (owns : List OwnRun) (run : Run) (own : OwnRun) → AreOwnRuns s v runs owns → IsOwnRunOf s v run own
+    → AreOwnRuns s v (runs ++ run ∷ []) (owns ++ own ∷ [])
+unfolding AreOwnRuns
+own-more s v [] [] run own all one = (one, tt)
+own-more s v (r ∷ runs) (o ∷ owns) run own all one = (all.0, own-more s v runs owns run own all.1 one)
+
+-- what is there of ends stays where other members are shown in the same columns
+same-ends : (w : Written) (s o : Shown) → o.origins.items ≡ s.origins.items → HasEnds w s → HasEnds w o
+same-ends w s o is h = λ e at.
+    let z = h e at in
+    record {
+      columns = z.columns;
+      wide = z.wide;
+      some = z.some;
+      few = subst (λ xs. e.front ≤ length xs) (sym is) z.few;
+      right = subst (λ xs. map (λ b. origin.Right b) z.columns ≡ drop e.front xs) (sym is) z.right;
+      texts = z.texts;
+    }
+
+-- a run with members of its own is within a segment if the run is
+own-within : (w : Written) (x : ShownJoin) (t : TableValue) (run : Run) (o : OwnRun) → HasEnds w x.shown → IsOwnRunOf x.shown x.joined.members run o
+    → IsRunWithin t w.right.now x.joined.members x.shown run → IsWithin w t o
+own-within w x t run o ends own h = (
+  same-ends w x.shown o.shown own.origins ends,
+  (
+    own.order,
+    (
+      own.to,
+      (
+        subst (All (IsMemberOf t w.right.now)) (sym own.rows) h.2,
+        (
+          subst (All (IsColumnOf t w.right.now)) (sym own.origins) h.3.0,
+          own.scales ∙ (h.3.1 ∙ ap (map (shown_scale t w.right.now)) (sym own.origins)),
+        ),
+      ),
+    ),
+  ),
+)
+
+-- and so is each of these
+owns-within : (w : Written) (x : ShownJoin) (t : TableValue) (runs : List Run) (owns : List OwnRun) → HasEnds w x.shown → AreOwnRuns x.shown x.joined.members runs owns
+    → All (IsRunWithin t w.right.now x.joined.members x.shown) runs → All (IsWithin w t) owns
+unfolding AreOwnRuns
+owns-within w x t [] [] ends own h = All-nil (IsWithin w t)
+owns-within w x t (run ∷ runs) (o ∷ owns) ends own h =
+    let P = IsRunWithin t w.right.now x.joined.members x.shown in
+    All-cons (IsWithin w t) o owns (own-within w x t run o ends own.0 (All-head P run runs h)) (owns-within w x t runs owns ends own.1 (All-tail P run runs h))
+
+-- its text is that of the run
+own-texts : (w : Written) (x : ShownJoin) (t : TableValue) (runs : List Run) (owns : List OwnRun) → AreOwnRuns x.shown x.joined.members runs owns
+    → map (own_text w t) owns ≡ map (run_text w x t) runs
+unfolding AreOwnRuns
+own-texts w x t [] [] own = refl
+own-texts w x t (run ∷ runs) (o ∷ owns) own =
+    let one : own_text w t o ≡ run_text w x t run =
+    (λ i. cells_text w.format.delimiter w.format.null.now (map (joined_cells t w.right.now (own.0.origins i)) (own.0.rows i))) in
+    (λ i. one i ∷ own-texts w x t runs owns own.1 i)
+
+-- one more part
+pub parts-more : (segments : List TableValue) (s : Shown) (v : JoinedValue) (runs : List Run) (parts : List Part) (p : Part) → ArePartsOf segments s v runs parts
+    → AreOwnRuns s v (filter (is_of (length parts)) runs) p.runs.items → ArePartsOf (segments ++ p.segment ∷ []) s v runs (parts ++ p ∷ [])
+parts-more segments s v runs parts p all one = (
+  map-append (λ (q : Part). q.segment) parts (p ∷ []) ∙ ap (λ ts. ts ++ p.segment ∷ []) all.0,
+  λ k d lt. elim (cases_eq k (length parts)) [
+    | inl e ↦ subst (λ (q : Part). AreOwnRuns s v (filter (is_of k) runs) q.runs.items) (sym (get_or_push parts p d k (sym e)))
+        (subst (λ n. AreOwnRuns s v (filter (is_of n) runs) p.runs.items) (sym e) one)
+    | inr ne ↦
+        let size = length-append parts (p ∷ []) in
+        let low : k < length parts = omega (arith, size, lt, ne) in
+        subst (λ (q : Part). AreOwnRuns s v (filter (is_of k) runs) q.runs.items) (sym (get_or-append parts (p ∷ []) d k low)) (all.1 k d low)
+  ],
+)
 
 -- ---- shares
 
-module _ (w : Written) (segments : List TableValue) (runs : List Run) (shares : List Share) (is : map (λ (x : Share). x.segment) shares ≡ map (λ (t : TableValue). Some t) segments) where
-  size : length shares ≡ length segments
-  size = sym (length-map shares (λ (x : Share). x.segment)) ∙ (ap length is ∙ length-map segments (λ (t : TableValue). Some t))
+module _ (w : Written) (parts : List Part) (shares : List Share) (is : map (λ (x : Share). x.part) shares ≡ map (λ (p : Part). Some p) parts) where
+  size : length shares ≡ length parts
+  size = sym (length-map shares (λ (x : Share). x.part)) ∙ (ap length is ∙ length-map parts (λ (p : Part). Some p))
 
-  -- the segment of a share
-  segment-of : (k : ℕ) (x : Result (Vec Texts Global) AllocError)
-      → (get_or shares k (record { segment = Some no_table; texts = x })).segment ≡ Some (get_or segments k no_table)
-  segment-of k x =
-      sym (get_or-map (λ (y : Share). y.segment) shares k (record { segment = Some no_table; texts = x }))
-      ∙ (ap (λ os. get_or os k (Some no_table)) is ∙ get_or-map (λ (t : TableValue). Some t) segments k no_table)
+  -- the part of a share
+  part-of : (k : ℕ) (x : Result (Vec Texts Global) AllocError) (e : Part) → (get_or shares k (record { part = Some e; texts = x })).part ≡ Some (get_or parts k e)
+  part-of k x e =
+      sym (get_or-map (λ (y : Share). y.part) shares k (record { part = Some e; texts = x }))
+      ∙ (ap (λ os. get_or os k (Some e)) is ∙ get_or-map (λ (p : Part). Some p) parts k e)
 
-  -- the runs of a share's segment are within it
-  pub shares-within : ((k : ℕ) → k < length segments → AreWithin w (get_or segments k no_table) k runs)
-      → (k : ℕ) (d : Share) → k < length shares → ForSome (get_or shares k d).segment (λ (t : TableValue). AreWithin w t k runs)
-  shares-within within k d low t at =
-      let e : Share = record { segment = Some no_table; texts = d.texts } in
-      let one = ap (λ (x : Share). x.segment) (get_or_default shares k e d low) ∙ at in
-      let same : get_or segments k no_table ≡ t = ap (λ o. unwrap_or o no_table) (sym (segment-of k d.texts) ∙ one) in
-      subst (λ (u : TableValue). AreWithin w u k runs) same (within k (subst (λ n. k < n) size low))
+  -- the runs of a share are within its segment
+  pub shares-within : All (IsPartWithin w) parts → (k : ℕ) (d : Share) → k < length shares → ForSome (get_or shares k d).part (IsPartWithin w)
+  shares-within within k d low p at =
+      let e : Share = record { part = Some p; texts = d.texts } in
+      let one = ap (λ (x : Share). x.part) (get_or_default shares k e d low) ∙ at in
+      let same : get_or parts k p ≡ p = ap (λ o. unwrap_or o p) (sym (part-of k d.texts p) ∙ one) in
+      subst (IsPartWithin w) same (within k p (subst (λ n. k < n) size low))
 
   -- the texts that are made of all shares
-  pub made-texts : (after : List Share) (made : List (Vec Texts Global)) → length after ≡ length shares
-      → ((k : ℕ) (d : Share) → k < length shares → IfSome (get_or shares k d).segment (λ (t : TableValue). IfOk (get_or after k d).texts (AreRunTexts w t k runs)))
-      → map (λ (x : Share). x.texts) after ≡ map (λ (t : Vec Texts Global). Ok t) made
-      → (length made ≡ length segments) × AreTextsOf (text_in w segments) runs made
+  pub made-texts : (after : List Share) (made : Vec (Vec Texts Global) Global) → length after ≡ length shares
+      → ((k : ℕ) (d : Share) → k < length shares → IfSome (get_or shares k d).part (λ (p : Part). IfOk (get_or after k d).texts (λ v. map whole_text v.items ≡ part_texts w p)))
+      → map (λ (x : Share). x.texts) after ≡ map (λ (t : Vec Texts Global). Ok t) made.items
+      → AreTextsOfParts w parts made
   made-texts after made many each all =
-      let long : length made ≡ length after = sym (length-map made (λ (t : Vec Texts Global). Ok t)) ∙ (ap length (sym all) ∙ length-map after (λ (x : Share). x.texts)) in (
+      let long : length made.items ≡ length after = sym (length-map made.items (λ (t : Vec Texts Global). Ok t)) ∙ (ap length (sym all) ∙ length-map after (λ (x : Share). x.texts)) in (
         long ∙ (many ∙ size),
-        λ k d lt.
-            let e : Share = record { segment = Some no_table; texts = Ok d } in
-            let t = get_or segments k no_table in
+        λ k d p lt.
+            let e : Share = record { part = Some p; texts = Ok d } in
             let low : k < length shares = omega (arith, long, many, lt) in
-            let ok : (get_or after k e).texts ≡ Ok (get_or made k d) =
-            sym (get_or-map (λ (x : Share). x.texts) after k e) ∙ (ap (λ os. get_or os k (Ok d)) all ∙ get_or-map (λ (u : Vec Texts Global). Ok u) made k d) in
-            let one = subst (λ o. IfSome o (λ (u : TableValue). IfOk (get_or after k e).texts (AreRunTexts w u k runs))) (segment-of k (Ok d)) (each k e low) in
-            let texts : AreRunTexts w t k runs (get_or made k d) = subst (λ x. IfOk x (AreRunTexts w t k runs)) ok one in
-            texts ∙ texts-in w segments k runs,
+            let ok : (get_or after k e).texts ≡ Ok (get_or made.items k d) =
+            sym (get_or-map (λ (x : Share). x.texts) after k e) ∙ (ap (λ os. get_or os k (Ok d)) all ∙ get_or-map (λ (u : Vec Texts Global). Ok u) made.items k d) in
+            let one = subst (λ o. IfSome o (λ (q : Part). IfOk (get_or after k e).texts (λ v. map whole_text v.items ≡ part_texts w q))) (part-of k (Ok d) p) (each k e low) in
+            subst (λ x. IfOk x (λ (v : Vec Texts Global). map whole_text v.items ≡ part_texts w (get_or parts k p))) ok one,
       )
+
+some-of : (parts : List Part) (k : ℕ) → k < length parts → Part
+some-of [] k lt = absurd (omega (arith, lt))
+some-of (p ∷ parts) k lt = p
+
+-- the texts of parts are those of the runs of each segment
+pub texts-of-parts : (w : Written) (x : ShownJoin) (segments : List TableValue) (runs : List Run) (parts : List Part) (made : Vec (Vec Texts Global) Global)
+    → ArePartsOf segments x.shown x.joined.members runs parts → AreTextsOfParts w parts made → AreTextsOf (text_in w x segments) runs made.items
+texts-of-parts w x segments runs parts made of texts k d lt =
+    let low : k < length parts = subst (λ n. k < n) texts.0 lt in
+    let p = some-of parts k low in
+    let q = get_or parts k p in
+    let segment : q.segment ≡ get_or segments k no_table =
+    sym (get_or-map (λ (y : Part). y.segment) parts k p) ∙ (ap (λ ts. get_or ts k p.segment) of.0 ∙ get_or_default segments k no_table p.segment (subst (λ n. k < n) (sym (length-map parts (λ (y : Part). y.segment)) ∙ ap length of.0) low)) in
+    texts.1 k d p lt
+    ∙ (own-texts w x q.segment (filter (is_of k) runs) q.runs.items (of.1 k p low)
+    ∙ (ap (λ t. map (run_text w x t) (filter (is_of k) runs)) segment ∙ texts-in w x segments k runs))
+
+-- there are as many of them
+pub counted : (text : Run → List ℕ) (runs : List Run) (made : List (Vec Texts Global)) → AreTextsOf text runs made → AreCounted runs made
+counted text runs made all k d lt =
+    sym (length-map (get_or made k d).items whole_text) ∙ (ap length (all k d lt) ∙ length-map (filter (is_of k) runs) text)
 
 -- ---- the runs in their order
 
@@ -175,54 +289,57 @@ whole-more text runs i run before next after low is joined so here =
 -- ---- all runs
 
 -- the rows that are written
-abbrev pub rows_of : Written → List JoinedRow
-rows_of w = shown_rows w.shown.now.chosen w.joined.now.members
+abbrev pub rows_of : ShownJoin → List JoinedRow
+rows_of x = shown_rows x.shown.chosen x.joined.members
 
 -- the text of runs that follow one another up to the last row
-texts-follow : (w : Written) (segments : List TableValue) (l : TableValue) (from : ℕ) (runs : List Run) → l.rows ≡ rows_of_all segments
-    → All (λ (t : TableValue). t.types ≡ l.types) segments → Follow from (length (rows_of w)) runs → All (IsRunOf segments (rows_of w)) runs
-    → concat (map (text_in w segments) runs) ≡ range_text w.format.delimiter w.format.null.now (shown_cells w l) from (length (rows_of w))
+texts-follow : (w : Written) (x : ShownJoin) (segments : List TableValue) (from : ℕ) (runs : List Run) → x.left.rows ≡ rows_of_all segments
+    → All (λ (t : TableValue). t.types ≡ x.left.types) segments → Follow from (length (rows_of x)) runs → All (IsRunOf segments (rows_of x)) runs
+    → concat (map (text_in w x segments) runs) ≡ range_text w.format.delimiter w.format.null.now (shown_cells w x) from (length (rows_of x))
 unfolding Follow
-texts-follow w segments l from [] rows types h each =
-    let n = length (rows_of w) in
+texts-follow w x segments from [] rows types h each =
+    let n = length (rows_of x) in
     let d = w.format.delimiter in
     let null = w.format.null.now in
-    sym (ap (λ k. range_text d null (shown_cells w l) k n) h ∙ range-none d null (shown_cells w l) n)
-texts-follow w segments l from (run ∷ runs) rows types h each =
-    let n = length (rows_of w) in
+    sym (ap (λ k. range_text d null (shown_cells w x) k n) h ∙ range-none d null (shown_cells w x) n)
+texts-follow w x segments from (run ∷ runs) rows types h each =
+    let n = length (rows_of x) in
     let d = w.format.delimiter in
     let null = w.format.null.now in
-    let cells = shown_cells w l in
-    let one = All-head (IsRunOf segments (rows_of w)) run runs each in
-    let others = All-tail (IsRunOf segments (rows_of w)) run runs each in
+    let cells = shown_cells w x in
+    let one = All-head (IsRunOf segments (rows_of x)) run runs each in
+    let others = All-tail (IsRunOf segments (rows_of x)) run runs each in
     let t = get_or segments run.segment no_table in
     let there : t ≡ get_or segments run.segment t = get_or_default segments run.segment no_table t one.segment in
-    let here : text_in w segments run ≡ range_text d null cells run.from run.to =
-    ap (cells_text d null) (run-cells segments l w.right.now t w.joined.now.members w.shown.now run rows (types run.segment no_table one.segment) one there) in
-    let rest = texts-follow w segments l run.to runs rows types h.1 others in
+    let here : text_in w x segments run ≡ range_text d null cells run.from run.to =
+    ap (cells_text d null) (run-cells segments x.left w.right.now t x.joined.members x.shown run rows (types run.segment no_table one.segment) one there) in
+    let rest = texts-follow w x segments run.to runs rows types h.1 others in
     (λ i. here i ++ rest i) ∙ (range-join d null cells run.from run.to n one.order one.to ∙ ap (λ k. range_text d null cells k n) h.0)
 
 -- the text of all runs is that of all rows
-pub whole-texts : (w : Written) (segments : List TableValue) (l : TableValue) (runs : List Run) → l.rows ≡ rows_of_all segments
-    → All (λ (t : TableValue). t.types ≡ l.types) segments → Follow 0 (length (rows_of w)) runs → All (IsRunOf segments (rows_of w)) runs
-    → concat (map (text_in w segments) runs) ≡ cells_text w.format.delimiter w.format.null.now (shown_cells w l)
-whole-texts w segments l runs rows types h each =
-    let all = rows_of w in
-    let cells = shown_cells w l in
-    let size : length cells ≡ length all = length-map all (joined_cells l w.right.now w.shown.now.origins.items) in
-    texts-follow w segments l 0 runs rows types h each ∙ ap (cells_text w.format.delimiter w.format.null.now) (take_all (length all - 0) cells (omega (arith, size)))
+pub whole-texts : (w : Written) (x : ShownJoin) (segments : List TableValue) (runs : List Run) → x.left.rows ≡ rows_of_all segments
+    → All (λ (t : TableValue). t.types ≡ x.left.types) segments → Follow 0 (length (rows_of x)) runs → All (IsRunOf segments (rows_of x)) runs
+    → concat (map (text_in w x segments) runs) ≡ cells_text w.format.delimiter w.format.null.now (shown_cells w x)
+whole-texts w x segments runs rows types h each =
+    let all = rows_of x in
+    let cells = shown_cells w x in
+    let size : length cells ≡ length all = length-map all (joined_cells x.left w.right.now x.shown.origins.items) in
+    texts-follow w x segments 0 runs rows types h each ∙ ap (cells_text w.format.delimiter w.format.null.now) (take_all (length all - 0) cells (omega (arith, size)))
 
--- the runs of a segment are within it
-pub all-within : (w : Written) (segments : List TableValue) (l : TableValue) (runs : List Run) (k : ℕ) → l.rows ≡ rows_of_all segments
-    → All (λ (t : TableValue). t.types ≡ l.types) segments → AreShownOf w l → HasEnds w → All (IsRunOf segments (rows_of w)) runs → k < length segments
-    → AreWithin w (get_or segments k no_table) k runs
-all-within w segments l runs k rows types h ends each low = (
-  ends,
-  λ i d lt is.
-      let t = get_or segments k no_table in
-      let there : t ≡ get_or segments k t = get_or_default segments k no_table t low in
-      run-within segments l w.right.now t w.joined.now.members w.shown.now (get_or runs i d) rows (types k no_table low) (each i d lt) (there ∙ ap (λ n. get_or segments n t) (sym is)) h,
-)
+-- the runs of each part are within its segment
+pub all-within : (w : Written) (x : ShownJoin) (segments : List TableValue) (runs : List Run) (parts : List Part) → x.left.rows ≡ rows_of_all segments
+    → All (λ (t : TableValue). t.types ≡ x.left.types) segments → AreShownOf w x → HasEnds w x.shown → All (IsRunOf segments (rows_of x)) runs
+    → ArePartsOf segments x.shown x.joined.members runs parts → All (IsPartWithin w) parts
+all-within w x segments runs parts rows types h ends each of k p low =
+    let q = get_or parts k p in
+    let inside : k < length segments = subst (λ n. k < n) (sym (length-map parts (λ (y : Part). y.segment)) ∙ ap length of.0) low in
+    let there : q.segment ≡ get_or segments k q.segment =
+    sym (get_or-map (λ (y : Part). y.segment) parts k p) ∙ (ap (λ ts. get_or ts k p.segment) of.0 ∙ get_or_default segments k q.segment p.segment inside) in
+    let type : q.segment.types ≡ x.left.types = subst (λ (t : TableValue). t.types ≡ x.left.types) (sym there) (types k q.segment inside) in
+    let P = IsRunWithin q.segment w.right.now x.joined.members x.shown in
+    let within : All (λ run. run.segment ≡ k → P run) runs =
+    λ i d lt is. run-within segments x.left w.right.now q.segment x.joined.members x.shown (get_or runs i d) rows type (each i d lt) (there ∙ ap (λ n. get_or segments n q.segment) (sym is)) h in
+    owns-within w x q.segment (filter (is_of k) runs) q.runs.items ends (of.1 k p low) (of-segment P k runs within)
 
 -- under a header the text of rows is that of a table
 pub table-text : (d : ℕ) (null : List ℕ) (header : List (List ℕ)) (cells : List (List Content)) (texts : Texts) → whole_text texts ≡ cells_text d null cells

@@ -3,7 +3,7 @@
 ghost use Rattle.std.specs.Prelude.{◌≡◌, ◌<◌, ℕ, Err, IsTrue, List, OnOk, All, IfOk, IfSome, Ok, Some, length, map, slice_index_or, string_bytes};
 ghost use Rattle.std.specs.Fork.{AcceptsEach, ChangesEach};
 ghost use Rattle.std.specs.Io.KnownBytes.{Appends};
-ghost use Rattle.std.specs.List.{concat};
+ghost use Rattle.std.specs.List.{concat, filter};
 ghost use Rattle.std.specs.Option.{ForSome};
 ghost use Rattle.rj_csv_io.specs.Devices.{CountsFailure};
 ghost use Rattle.rj_csv_io.specs.Shown.{table_text};
@@ -12,7 +12,7 @@ ghost use Rattle.rj_engine.specs.Shown.{IsRunWithin};
 ghost use Rattle.rj_engine.specs.declared.runs.Run.{Run};
 ghost use Rattle.rj_command.specs.declared.join.texts.Share.{Share};
 ghost use Rattle.rj_command.specs.Internal.Ends.{AreEndsOf};
-ghost use Rattle.rj_command.specs.Internal.Texts.{AreCounted, AreRunTexts, AreShownOf, AreTextsOf, AreWithin, HasEnds, cells_text, no_table, run_text, shown_cells, text_in, whole_text};
+ghost use Rattle.rj_command.specs.Internal.Texts.{AreCounted, AreOwnRuns, ArePartsOf, AreShownOf, AreTextsOf, AreTextsOfParts, HasEnds, IsCutOf, IsPartWithin, IsWithin, cells_text, is_of, own_text, part_texts, shown_cells, whole_text};
 
 use crate::join::ends::Ends;
 use rj_columns::Table;
@@ -175,22 +175,31 @@ fn runs_of_segment(
     Ok(own)
 }
 
-// A share for each segment, with its runs, whose texts aren't made yet. What the runs were cut from
-// is freed.
-fn shares_of(
+// A part for each segment, with its runs. What the runs were cut from is freed.
+fn parts_of(
     alloc: Global,
     segments: Vec<Table>,
     joined: Joined,
     shown: Shown,
     runs: &[Run],
-) -> Result<Vec<Share>, AllocError>
+) -> Result<Vec<Part>, AllocError>
     requires { All (IsCutOf shown joined.members) runs.now }
-    ensures { IfOk result (λ v. AreShares segments.items shown joined.members runs.now v.items) }
+    ensures { IfOk result (λ v. ArePartsOf segments.items shown joined.members runs.now v.items) }
 {
-    let mut shares = Vec::with_capacity(alloc, segments.len())?;
+    let mut parts = Vec::with_capacity(alloc, segments.len())?;
     for segment in segments {
-        let own = runs_of_segment(alloc, &joined, &shown, runs, shares.len())?;
-        let part = Part { segment, runs: own };
+        let own = runs_of_segment(alloc, &joined, &shown, runs, parts.len())?;
+        parts.push(Part { segment, runs: own })?;
+    }
+    Ok(parts)
+}
+
+// A share for each part, whose texts aren't made yet.
+fn shares_of(alloc: Global, parts: Vec<Part>) -> Result<Vec<Share>, AllocError>
+    ensures { IfOk result (λ v. map (λ s. s.part) v.items ≡ map (λ p. Some p) parts.items) }
+{
+    let mut shares = Vec::with_capacity(alloc, parts.len())?;
+    for part in parts {
         shares.push(Share {
             part: Some(part),
             texts: Err(AllocError),
@@ -275,6 +284,22 @@ fn make_shares<R: Threads + Sync>(
     )
 }
 
+// The texts of the runs of each part.
+fn texts_of_parts<R: Threads + Sync>(
+    rt: &R,
+    alloc: Global,
+    parts: Vec<Part>,
+    written: &Written<'_>,
+) -> Result<Vec<Vec<Texts>>, AllocError>
+    requires workers { 0 < written.now.workers }
+    requires within { All (IsPartWithin written.now) parts.items }
+    ensures { IfOk result (AreTextsOfParts written.now parts.items) }
+{
+    let shares = shares_of(alloc, parts)?;
+    let made = make_shares(rt, alloc, shares, written);
+    all_made(alloc, made)
+}
+
 // The texts of the runs, in the runs' order: those of each segment are in the order of its runs.
 fn in_order(alloc: Global, mut made: Vec<Vec<Texts>>, runs: &[Run]) -> Result<Texts, AllocError>
     requires segments { All (λ run. run.segment < length made.items) runs.now }
@@ -313,9 +338,8 @@ fn texts_of_joined<R: Threads + Sync>(
     let _rows = left.rows();
     let segments = left.into_segments(alloc)?;
     let runs = cut_runs(alloc, &segments, &joined, &shown)?;
-    let shares = shares_of(alloc, segments, joined, shown, &runs)?;
-    let shares = make_shares(rt, alloc, shares, written);
-    let made = all_made(alloc, shares)?;
+    let parts = parts_of(alloc, segments, joined, shown, &runs)?;
+    let made = texts_of_parts(rt, alloc, parts, written)?;
     in_order(alloc, made, &runs)
 }
 

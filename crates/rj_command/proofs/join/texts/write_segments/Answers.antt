@@ -15,6 +15,6 @@ returns-clause-ok g c =
     let before = g.O.Output.told c.args.writer.now in
     let after = g.O.Output.told c.write_texts.new.output in
     let header = map (λ (n : Bor (List ℕ)). n.now) c.args.header.now in
-    let under = table-text d w.format.null.now header (shown_cells w c.args.left) c.in-Ok.texts c.in-Ok.ensures in
+    let under = table-text d w.format.null.now header (shown_cells w c.args.source) c.in-Ok.texts c.in-Ok.ensures in
     let slice = ap (λ ts. row_text (writer_of d) header ++ concat (map (λ (t : Vec ℕ Global). t.items) ts)) c.as_slice.ensures.value in
     subst (λ t. OnOk c.write_texts.result (Appends before after t)) (slice ∙ under) c.write_texts.ensures.ok
