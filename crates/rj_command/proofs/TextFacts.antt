@@ -1,5 +1,5 @@
 -- The texts of runs, one after another.
-use Rattle.std.proofs.Common.{◌≡◌, ◌≢◌, ℕ, suc, ◌+◌, ◌-◌, ◌<◌, ◌==◌, true, false, cond, List, [], ◌∷◌, ◌++◌, All, refl, ap, sym, subst, ◌∙◌, arith, inl, inr, length, map, take, drop, get_or, set, absurd, tt}
+use Rattle.std.proofs.Common.{◌≡◌, ◌≢◌, ℕ, suc, ◌+◌, ◌-◌, ◌<◌, ◌==◌, true, false, cond, List, [], ◌∷◌, ◌++◌, All, refl, ap, sym, subst, ◌∙◌, arith, inl, inr, length, map, take, drop, get_or, set, ◌≤◌}
 use Rattle.std.specs.Prelude.{IfOk, IfSome, Ok, Result, Some, unwrap_or}
 use Rattle.std.specs.Option.{ForSome}
 use Rattle.std.specs.List.{concat, filter}
@@ -7,12 +7,13 @@ use Rattle.std.specs.declared.alloc.AllocError.{AllocError}
 use Rattle.std.proofs.Math.ListN.{get_or-map}
 use Rattle.std.specs.declared.alloc.Global.{Global}
 use Rattle.std.specs.declared.vec.Vec.{Vec}
+use Rattle.std.proofs.lemmas.Option.{IfSome_then}
 use Rattle.std.proofs.lemmas.Bool.{cases_Bool, cases_eq}
 use Rattle.std.proofs.lemmas.Bool.Decides.{nat_tests}
 use borrow.Author.Tests.{eqb-true}
 use Rattle.std.proofs.lemmas.List.{drop_more, get_or-set_other, get_or-set_same, append-nil, get_or_default, get_or_push, length-append, length-map, length-set, map-append, take_all, take_more}
 use Rattle.std.proofs.Math.ListN.{get_or-append}
-use Rattle.std.proofs.lemmas.List.Elements.{All-cons, All-head, All-nil, All-tail}
+use Rattle.std.proofs.lemmas.List.Elements.{All-cons, All-head, All-nil, All-tail, filter_more}
 use Rattle.std.proofs.lemmas.List.Folds.{concat-append}
 use Rattle.rj_columns.specs.Contents.{Content}
 use Rattle.rj_columns.specs.Tables.{TableValue, rows_of_all}
@@ -88,11 +89,34 @@ pub own-more : (s : Shown) (v : JoinedValue) (runs : List Run) (owns : List OwnR
 unfolding AreOwnRuns
 own-more s v [] [] run own all one = (one, tt)
 own-more s v (r ∷ runs) (o ∷ owns) run own all one = (all.0, own-more s v runs owns run own all.1 one)
+own-more s v [] (o ∷ owns) run own all one = absurd all
+own-more s v (r ∷ runs) [] run own all one = absurd all
+
+-- the next run is one of the segment
+pub own_next : (s : Shown) (v : JoinedValue) (number : ℕ) (runs : List Run) (i : ℕ) (run : Run) (owns : List OwnRun) (own : OwnRun) → i < length runs → run ≡ get_or runs i run
+    → run.segment ≡ number → AreOwnRuns s v (filter (is_of number) (take i runs)) owns → IsOwnRunOf s v run own
+    → AreOwnRuns s v (filter (is_of number) (take (i + 1) runs)) (owns ++ own ∷ [])
+own_next s v number runs i run owns own low is here all one =
+    let next : filter (is_of number) (take (i + 1) runs) ≡ filter (is_of number) (take i runs) ++ run ∷ [] =
+    filter_more (is_of number) runs i run low
+    ∙ ap (λ r. filter (is_of number) (take i runs) ++ cond (is_of number r) (r ∷ []) []) (sym is)
+    ∙ ap (λ b. filter (is_of number) (take i runs) ++ cond b (run ∷ []) []) (same-segment run.segment number here) in
+    subst (λ rs. AreOwnRuns s v rs (owns ++ own ∷ [])) (sym next) (own-more s v (filter (is_of number) (take i runs)) owns run own all one)
+
+-- or of another one
+pub own_other : (s : Shown) (v : JoinedValue) (number : ℕ) (runs : List Run) (i : ℕ) (run : Run) (owns : List OwnRun) → i < length runs → run ≡ get_or runs i run
+    → run.segment ≢ number → AreOwnRuns s v (filter (is_of number) (take i runs)) owns → AreOwnRuns s v (filter (is_of number) (take (i + 1) runs)) owns
+own_other s v number runs i run owns low is other all =
+    let same : filter (is_of number) (take (i + 1) runs) ≡ filter (is_of number) (take i runs) =
+    filter_more (is_of number) runs i run low
+    ∙ ap (λ r. filter (is_of number) (take i runs) ++ cond (is_of number r) (r ∷ []) []) (sym is)
+    ∙ ap (λ b. filter (is_of number) (take i runs) ++ cond b (run ∷ []) []) (other-segment run.segment number other)
+    ∙ append-nil (filter (is_of number) (take i runs)) in
+    subst (λ rs. AreOwnRuns s v rs owns) (sym same) all
 
 -- what is there of ends stays where other members are shown in the same columns
 same-ends : (w : Written) (s o : Shown) → o.origins.items ≡ s.origins.items → HasEnds w s → HasEnds w o
-same-ends w s o is h = λ e at.
-    let z = h e at in
+same-ends w s o is h = IfSome_then w.ends.now h (λ e z.
     record {
       columns = z.columns;
       wide = z.wide;
@@ -100,27 +124,16 @@ same-ends w s o is h = λ e at.
       few = subst (λ xs. e.front ≤ length xs) (sym is) z.few;
       right = subst (λ xs. map (λ b. origin.Right b) z.columns ≡ drop e.front xs) (sym is) z.right;
       texts = z.texts;
-    }
+    })
 
 -- a run with members of its own is within a segment if the run is
 own-within : (w : Written) (x : ShownJoin) (t : TableValue) (run : Run) (o : OwnRun) → HasEnds w x.shown → IsOwnRunOf x.shown x.joined.members run o
     → IsRunWithin t w.right.now x.joined.members x.shown run → IsWithin w t o
-own-within w x t run o ends own h = (
-  same-ends w x.shown o.shown own.origins ends,
-  (
-    own.order,
-    (
-      own.to,
-      (
-        subst (All (IsMemberOf t w.right.now)) (sym own.rows) h.2,
-        (
-          subst (All (IsColumnOf t w.right.now)) (sym own.origins) h.3.0,
-          own.scales ∙ (h.3.1 ∙ ap (map (shown_scale t w.right.now)) (sym own.origins)),
-        ),
-      ),
-    ),
-  ),
-)
+own-within w x t run o ends own h =
+    let members = subst (All (IsMemberOf t w.right.now)) (sym own.rows) h.2 in
+    let columns = subst (All (IsColumnOf t w.right.now)) (sym own.origins) h.3.0 in
+    let scales = own.scales ∙ (h.3.1 ∙ ap (map (shown_scale t w.right.now)) (sym own.origins)) in
+    (same-ends w x.shown o.shown own.origins ends, (own.order, own.to, members, (columns, scales)))
 
 -- and so is each of these
 owns-within : (w : Written) (x : ShownJoin) (t : TableValue) (runs : List Run) (owns : List OwnRun) → HasEnds w x.shown → AreOwnRuns x.shown x.joined.members runs owns
@@ -130,6 +143,8 @@ owns-within w x t [] [] ends own h = All-nil (IsWithin w t)
 owns-within w x t (run ∷ runs) (o ∷ owns) ends own h =
     let P = IsRunWithin t w.right.now x.joined.members x.shown in
     All-cons (IsWithin w t) o owns (own-within w x t run o ends own.0 (All-head P run runs h)) (owns-within w x t runs owns ends own.1 (All-tail P run runs h))
+owns-within w x t [] (o ∷ owns) ends own h = absurd own
+owns-within w x t (run ∷ runs) [] ends own h = absurd own
 
 -- its text is that of the run
 own-texts : (w : Written) (x : ShownJoin) (t : TableValue) (runs : List Run) (owns : List OwnRun) → AreOwnRuns x.shown x.joined.members runs owns
@@ -140,6 +155,8 @@ own-texts w x t (run ∷ runs) (o ∷ owns) own =
     let one : own_text w t o ≡ run_text w x t run =
     (λ i. cells_text w.format.delimiter w.format.null.now (map (joined_cells t w.right.now (own.0.origins i)) (own.0.rows i))) in
     (λ i. one i ∷ own-texts w x t runs owns own.1 i)
+own-texts w x t [] (o ∷ owns) own = absurd own
+own-texts w x t (run ∷ runs) [] own = absurd own
 
 -- one more part
 pub parts-more : (segments : List TableValue) (s : Shown) (v : JoinedValue) (runs : List Run) (parts : List Part) (p : Part) → ArePartsOf segments s v runs parts
@@ -205,7 +222,7 @@ texts-of-parts w x segments runs parts made of texts k d lt =
     let p = some-of parts k low in
     let q = get_or parts k p in
     let segment : q.segment ≡ get_or segments k no_table =
-    sym (get_or-map (λ (y : Part). y.segment) parts k p) ∙ (ap (λ ts. get_or ts k p.segment) of.0 ∙ get_or_default segments k no_table p.segment (subst (λ n. k < n) (sym (length-map parts (λ (y : Part). y.segment)) ∙ ap length of.0) low)) in
+    sym (get_or-map (λ (y : Part). y.segment) parts k p) ∙ (ap (λ ts. get_or ts k p.segment) of.0 ∙ get_or_default segments k p.segment no_table (subst (λ n. k < n) (sym (length-map parts (λ (y : Part). y.segment)) ∙ ap length of.0) low)) in
     texts.1 k d p lt
     ∙ (own-texts w x q.segment (filter (is_of k) runs) q.runs.items (of.1 k p low)
     ∙ (ap (λ t. map (run_text w x t) (filter (is_of k) runs)) segment ∙ texts-in w x segments k runs))
@@ -334,7 +351,7 @@ all-within w x segments runs parts rows types h ends each of k p low =
     let q = get_or parts k p in
     let inside : k < length segments = subst (λ n. k < n) (sym (length-map parts (λ (y : Part). y.segment)) ∙ ap length of.0) low in
     let there : q.segment ≡ get_or segments k q.segment =
-    sym (get_or-map (λ (y : Part). y.segment) parts k p) ∙ (ap (λ ts. get_or ts k p.segment) of.0 ∙ get_or_default segments k q.segment p.segment inside) in
+    sym (get_or-map (λ (y : Part). y.segment) parts k p) ∙ (ap (λ ts. get_or ts k p.segment) of.0 ∙ get_or_default segments k p.segment q.segment inside) in
     let type : q.segment.types ≡ x.left.types = subst (λ (t : TableValue). t.types ≡ x.left.types) (sym there) (types k q.segment inside) in
     let P = IsRunWithin q.segment w.right.now x.joined.members x.shown in
     let within : All (λ run. run.segment ≡ k → P run) runs =
