@@ -1,5 +1,5 @@
 -- How types and names are shown, each on one line.
-use Rattle.std.specs.Prelude.{ℕ, List, [], ◌++◌, ◌-◌, nat_lt, if◌then◌else◌, codes, decimal, length, take, Option, None, Some}
+use Rattle.std.specs.Prelude.{ℕ, List, [], ◌∷◌, ◌++◌, ◌-◌, nat_lt, if◌then◌else◌, codes, decimal, length, take, Option, None, Some}
 use Rattle.std.specs.List.{flat_map}
 use Rattle.rj_columns.specs.declared.cell.ColumnType.{ColumnType}
 use Rattle.rj_columns.specs.declared.cell.ColumnType.TheVariants as kind
