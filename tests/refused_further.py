@@ -155,7 +155,12 @@ def run_all(tally):
     """Sweeps each run."""
     with harness.folder() as at:
         refuse = refused_allocations.library(pathlib.Path(at))
-        for label, options, tables in (("joined", [], FILES + MATCHES), ("counted", ["--count"], FILES)):
+        # (with --max-rows the files' bytes are kept to the end)
+        for label, options, tables in (
+            ("joined", [], FILES + MATCHES),
+            ("joined as expected", ["--max-rows", "2"], FILES + MATCHES),
+            ("counted", ["--count"], FILES),
+        ):
             explained(tally, refuse, label, options, tables)
         found = harness.side_by_side(tally, [functools.partial(sweep, refuse=refuse, run=run) for run in RUNS])
         counts = [f"{run.name} {count}" for run, count in zip(RUNS, found)]

@@ -1,7 +1,7 @@
 mod HeaderFacts
 mod OperandFacts
 mod AlikeFacts
-mod RunFacts
+pub mod RunFacts
 mod PreparedFacts
 mod ExpectedFacts
 mod CountFacts

@@ -1,13 +1,18 @@
 -- What is made of two tables before what is chosen of their joined table is written.
-use Rattle.std.proofs.Common.{◌≡◌, ◌∙◌, [], Err, ap, false, inl, inr, map, refl, subst, sym, true≢false, List, ℕ}
-use Rattle.std.specs.Prelude.{◌≢◌, ◌⊎◌, IfOk, Ok, Result, string_bytes}
+use Rattle.std.proofs.Common.{◌≡◌, ◌∙◌, [], Bool, Err, None, Option, Some, ap, false, inl, inr, length, map, refl, subst, sym, true, true≢false, List, ℕ}
+use Rattle.std.specs.Prelude.{◌≢◌, ◌⊎◌, ◌-◌, IfOk, Ok, Result, is_none, string_bytes}
+use Rattle.std.proofs.lemmas.Bool.{and_parts}
 use Rattle.std.specs.declared.alloc.AllocError.{AllocError}
 use Rattle.rj_columns.specs.Contents.{Content}
 use Rattle.rj_columns.specs.Tables.{TableValue}
 use Rattle.rj_condition.specs.Splits.{keys_of}
 use Rattle.rj_condition.specs.declared.bound.BoundJoin.{BoundJoin}
 use Rattle.rj_engine.specs.Chosen.{chosen_view}
-use Rattle.rj_engine.specs.Join.{Outcome}
+use Rattle.rj_csv_io.proofs.ApartFacts.{told_apart}
+use Rattle.rj_csv_io.specs.Ambiguous.{AreClear}
+use Rattle.rj_csv_io.specs.Tables.{is_null_text}
+use Rattle.rj_engine.specs.Expected.{HasAtMost}
+use Rattle.rj_engine.specs.Join.{JoinedValue, Outcome}
 use Rattle.rj_engine.specs.Naming.{chosen_names}
 use Rattle.rj_engine.specs.Partitioned.{sizes_of}
 use Rattle.rj_engine.specs.Pools.{pieces_of_sizes}
@@ -16,20 +21,22 @@ use Rattle.rj_engine.specs.declared.naming.NamingRefused.{NamingRefused}
 use Rattle.rj_engine.specs.declared.naming.NamingRefused.TheVariants as naming
 use Rattle.rj_csv_io.specs.declared.write.WriteRefused.{WriteRefused}
 use Rattle.rj_csv_io.specs.declared.write.WriteRefused.TheVariants as write
-use Rattle.rj_line.specs.Faults.{write_fault}
+use Rattle.rj_line.specs.Faults.{IsOfWriting, write_fault}
 use Rattle.rj_line.specs.declared.fault.Fault.{Fault}
 use Rattle.rj_line.specs.declared.fault.Fault.TheVariants as fault
 use Rattle.rj_line.specs.declared.request.Hash.{Hash}
 use Rattle.rj_line.specs.declared.request.Request.{Request}
 use Rattle.rj_line.specs.declared.request.Strictness.{Strictness}
 use Rattle.rj_line.specs.declared.request.Strictness.TheVariants as strictness
-use Rattle.rj_command.specs.Expected.{IsExpected, IsUnexpected}
-use Rattle.rj_command.specs.Operands.{IsNameFault}
+use Rattle.rj_command.specs.Expected.{IsExpected, IsUnexpected, expects_nothing, expects_rows_alone}
+use Rattle.rj_command.specs.Operands.{HasNames, IsNameFault}
 use Rattle.rj_command.specs.Refused.{naming_fault}
 use Rattle.rj_command.specs.Internal.Prepared.{IsOutcome, IsPrepared}
-use Rattle.rj_command.specs.Runs.{AreNames, IsNullFault, IsReady, IsUnprepared, IsUnwritten, hash_value}
+use Rattle.rj_command.specs.Runs.{AreNames, AreReadApart, IsNullFault, IsReady, IsUnprepared, IsUnwritten, hash_value, is_read_as_null, takes_any, tells_nulls, tells_nulls_by}
 use Rattle.rj_command.specs.declared.join.operands.Operands.{Operands}
 use Rattle.rj_command.specs.declared.join.running.Prepared.{Prepared}
+use Rattle.rj_command.proofs.ApartFacts.{view-apart}
+use Rattle.rj_command.proofs.CountFacts.{few_expected}
 use Rattle.rj_command.proofs.RunFacts.{is_device, naming_apart}
 
 -- what a join by a hash gives, where that is the hash that is asked for
@@ -127,3 +134,38 @@ never_failed {T} q o f result is told failed =
     let same : ◌≡◌ {A = Result T Fault} (Err f) (Err fault.WriteDevice) = sym is ∙ failed in
     let device : f ≡ fault.WriteDevice = cc in
     absurd (true≢false (sym (ap is_device device) ∙ unprepared_apart q o f told))
+
+at-most : (o : Option ℕ) (j : JoinedValue) → is_none o ≡ true → HasAtMost o j
+at-most None j none = tt
+at-most (Some most) j none = absurd (true≢false (sym none))
+
+clear-told : (x : Strictness) (null : List ℕ) (rows : List (List Content)) (read : Bool) (f : Fault) → tells_nulls_by x read ≡ true → (read ≡ true → AreClear null rows)
+    → IsNullFault x null rows f → ⊥
+clear-told strictness.Off null rows read f tells clear told = told
+clear-told strictness.On null rows read f tells clear told = true≢false (sym told.3.first.here ∙ clear tells (told.0 - 1) (told.1 - 1))
+clear-told strictness.Full null rows read f tells clear told = true≢false (sym told.3.first.here ∙ clear tells (told.0 - 1) (told.1 - 1))
+
+-- where any joined table is taken whose chosen columns have names, nothing else is told
+pub taken : (q : Request) (o : Operands) (f : Fault) → AreReadApart q o → is_null_text q.out_null.now ≡ true → takes_any q ≡ true → HasNames q o.join o.left o.right
+    → IsUnwritten q o f → IsOfWriting f
+taken q o f apart lawful any named told =
+    let null = q.out_null.now in
+    let asks = and_parts (expects_nothing q.expectation) (tells_nulls q) any in
+    let expects = and_parts (expects_rows_alone q.expectation) (is_none q.expectation.most_rows) asks.0 in
+    let rows = (chosen_view q.choice o.join o.left o.right).cells in
+    elim told [
+      | inl memory ↦ inl memory
+      | inr other ↦ elim other [
+        | inl device ↦ inr device
+        | inr result ↦ elim result [
+          | inl nameless ↦ let g : ◌≡◌ {A = Result (List (List ℕ)) NamingRefused} (Ok named.0) (Err nameless.0) = sym named.1 ∙ nameless.1 in absurd (cc)
+          | inr seen ↦ elim seen.1 [
+            | inl unexpected ↦ absurd (unexpected.1 (few_expected q.expectation (length o.left.rows) (joined_of o.join o.left o.right) expects.0
+                (at-most q.expectation.most_rows (joined_of o.join o.left o.right) expects.1)))
+            | inr unclear ↦ absurd (clear-told q.strict null rows (is_read_as_null q) f asks.1
+                (λ read. let sides = and_parts _ _ read in
+                told_apart null rows lawful (view-apart null o.left o.right (apart.0 sides.0) (apart.1 sides.1) q.choice o.join)) unclear.1)
+          ]
+        ]
+      ]
+    ]

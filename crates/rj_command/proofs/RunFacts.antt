@@ -1,6 +1,6 @@
 -- What writing says of a whole run.
 use Rattle.std.proofs.Common.{◌≡◌, ◌∙◌, ◌++◌, ◌∷◌, [], Bool, true, false, cond, inl, inr, ap, refl, subst, sym, true≢false, List, Option, Some, None, ℕ}
-use Rattle.std.specs.Prelude.{◌≢◌, if◌then◌else◌, option_map, Result, Ok, Err, IfOk, IfErr}
+use Rattle.std.specs.Prelude.{◌≢◌, ◌⊎◌, if◌then◌else◌, option_map, Result, Ok, Err, IfOk, IfErr}
 use Rattle.std.proofs.lemmas.Bool.{cases_Bool}
 use Rattle.csv.specs.Reading.{records, strip_bom}
 use Rattle.rj_columns.specs.Names.{empty_table}
@@ -16,7 +16,7 @@ use Rattle.rj_condition.specs.declared.refused.BindRefused.{BindRefused}
 use Rattle.rj_condition.specs.declared.refused.BindRefused.TheVariants as bind
 use Rattle.rj_csv_io.specs.declared.refused.ReadRefused.{ReadRefused}
 use Rattle.rj_csv_io.specs.declared.refused.ReadRefused.TheVariants as read
-use Rattle.rj_command.specs.Operands.{AreOperands, IsClauseFault, IsFirstFault, in_clause, in_headers, in_left, in_right}
+use Rattle.rj_command.specs.Operands.{AreOperands, IsClauseFault, IsFirstFault, IsNameFault, in_clause, in_headers, in_left, in_right}
 use Rattle.rj_command.specs.Operands as operands
 use Rattle.rj_command.specs.Refused.{bind_fault, naming_fault, parse_fault}
 use Rattle.rj_engine.specs.declared.naming.NamingRefused.{NamingRefused}
@@ -78,6 +78,21 @@ of_operands left right q result f is told = subst (λ (r : Result Stats Fault). 
 -- what holds of a fault holds of the result that it is
 pub of_fault : {T : Type 0} (P : Fault → Type 0) (result : Result T Fault) (f : Fault) → result ≡ Err f → P f → IfErr result P
 of_fault {T} P result f is holds = subst (λ (r : Result T Fault). IfErr r P) (sym is) holds
+
+-- columns without names are one
+pub of_names : (left right : List ℕ) (q : Request) (o : Operands) (f : Fault) → AreOperands left right q o.left o.right o.join
+    → (f ≡ fault.Memory) ⊎ ((true ≡ true) × IsNameFault q o.join o.left o.right f) → IsRunFault left right q f
+of_names left right q o f operands told memory device = elim told [
+  | inl is ↦ absurd (memory is)
+  | inr nameless ↦ inr (record { l = o.left; r = o.right; join = o.join; operands = operands; told = inl nameless.1 })
+]
+
+-- what holds of an outcome holds of the result that it is
+pub of_outcome : (P : Stats → Type 0) (result outcome : Result Stats Fault) → result ≡ outcome → IfOk outcome P → IfOk result P
+of_outcome P result outcome is = subst (λ (r : Result Stats Fault). IfOk r P) (sym is)
+
+pub of_outcome_fault : (P : Fault → Type 0) (result outcome : Result Stats Fault) → result ≡ outcome → IfErr outcome P → IfErr result P
+of_outcome_fault P result outcome is = subst (λ (r : Result Stats Fault). IfErr r P) (sym is)
 
 -- a fault of writing is one of a run
 pub no_other : (left right : List ℕ) (q : Request) (o : Operands) (result : Result Stats Fault) → AreOperands left right q o.left o.right o.join

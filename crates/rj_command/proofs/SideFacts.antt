@@ -1,5 +1,5 @@
 -- What the bytes of a side denote, by how they were read.
-use Rattle.std.proofs.Common.{◌≡◌, ◌≢◌, ◌∙◌, Bool, true, List, ℕ, sym, ap, subst}
+use Rattle.std.proofs.Common.{◌≡◌, ◌≢◌, ◌∙◌, Bool, List, ℕ, sym, ap, subst}
 use Rattle.std.specs.Prelude.{Result, Ok, Err, IfOk, IfErr}
 use Rattle.rj_columns.specs.Tables.{TableValue}
 use Rattle.rj_csv_io.specs.StrictFaults.{AreAbove, HasFault, row_at}

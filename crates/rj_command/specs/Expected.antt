@@ -29,6 +29,10 @@ refusal_of (Err e) = Err fault.Memory
 abbrev pub expects_rows_alone : Expectation → Bool
 expects_rows_alone e = is_none e.matching && not e.matched
 
+-- nothing at all is
+abbrev pub expects_nothing : Expectation → Bool
+expects_nothing e = expects_rows_alone e && is_none e.most_rows
+
 -- a number of rows, if it is more than the most that are expected
 abbrev pub excess_over : Option ℕ → ℕ → Option ℕ
 excess_over None rows = None

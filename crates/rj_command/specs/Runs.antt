@@ -1,5 +1,5 @@
 -- What a run writes and counts (SQL-92, 7.5).
-use Rattle.std.specs.Prelude.{◌≡◌, ◌≢◌, ◌⊎◌, true, List, [], None, Option, ℕ, ◌^◌, length, map, Ok, Err}
+use Rattle.std.specs.Prelude.{◌≡◌, ◌≢◌, ◌⊎◌, ◌&&◌, Bool, true, Result, List, [], None, Option, ℕ, ◌^◌, length, map, Ok, Err}
 use Rattle.std.specs.List.{range_with_len}
 use Rattle.std.specs.Io.KnownBytes.{Appends}
 use Rattle.std.specs.declared.alloc.Global.{Global}
@@ -24,7 +24,7 @@ use Rattle.rj_engine.specs.Partitioned.{sizes_of}
 use Rattle.rj_engine.specs.Pools.{pieces_of_sizes}
 use Rattle.rj_engine.specs.Results.{joined_of}
 use Rattle.rj_command.specs.Alike.{names_of, text_key_names}
-use Rattle.rj_command.specs.Expected.{IsExpected, IsUnexpected}
+use Rattle.rj_command.specs.Expected.{IsExpected, IsUnexpected, expects_nothing}
 use Rattle.rj_command.specs.Operands.{AreOperands, IsFirstFault, IsNameFault}
 use Rattle.rj_command.specs.Reported.{IsReported}
 use Rattle.rj_line.specs.declared.fault.Fault.{Fault}
@@ -39,6 +39,7 @@ use Rattle.rj_line.specs.declared.fault.Side.TheVariants as side
 use Rattle.rj_command.specs.Sides.{nulls_of}
 use Rattle.rj_command.specs.SuchRows.{unkept_side}
 use Rattle.rj_command.specs.declared.join.stats.Stats.{Stats}
+use Rattle.rj_command.specs.declared.join.unwritten.Unwritten.{Unwritten}
 
 -- these are the names that are asked for of the chosen columns: each is valid, and no two are the
 -- same, if repeated ones are renamed, or if a list names the columns
@@ -74,6 +75,23 @@ abbrev pub AreReadApart : Request → Operands → Type 0
 AreReadApart q o =
     (is_null_field (nulls_of q side.Left) q.out_null.now ≡ true → AreApart q.out_null.now o.left.rows)
     × (is_null_field (nulls_of q side.Right) q.out_null.now ≡ true → AreApart q.out_null.now o.right.rows)
+
+-- the text that is written for NULL is a NULL text of both tables
+abbrev pub is_read_as_null : Request → Bool
+is_read_as_null q = is_null_field (nulls_of q side.Left) q.out_null.now && is_null_field (nulls_of q side.Right) q.out_null.now
+
+abbrev pub tells_nulls_by : Strictness → Bool → Bool
+tells_nulls_by strictness.Off read = true
+tells_nulls_by strictness.On read = read
+tells_nulls_by strictness.Full read = read
+
+-- a NULL of a joined table can be told from its cells, or needn't be
+abbrev pub tells_nulls : Request → Bool
+tells_nulls q = tells_nulls_by q.strict (is_read_as_null q)
+
+-- any joined table is taken whose chosen columns have names
+abbrev pub takes_any : Request → Bool
+takes_any q = expects_nothing q.expectation && tells_nulls q
 
 -- the hash of a key
 abbrev pub hash_value : Hash → List Content → ℕ
@@ -114,6 +132,11 @@ CanBeWritten q o = (stats : Stats) × IsReady q o stats
 -- the text of what is chosen of it was written after what the writer already had
 abbrev pub WritesTables : Request → Operands → Option (List ℕ) → Option (List ℕ) → Stats → Type 0
 WritesTables q o before after stats = (j : IsReady q o stats) × Appends before after (chosen_text q j.names o.join o.left o.right)
+
+-- the outcome of writing, without what is known of the tables after an error
+abbrev pub outcome_of : Result Stats Unwritten → Result Stats Fault
+outcome_of (Ok stats) = Ok stats
+outcome_of (Err u) = Err u.fault
 
 -- an error of a joined table before what is chosen of it is written: that one first, then that it
 -- isn't as expected, then a cell that can't be told from NULL

@@ -5,9 +5,10 @@
 mod join;
 
 pub use join::{
-    PartitionRows, Sizes, Stats, Step, TextKey, UnkeptRows, Watch, bind_clause, complete_types,
-    count, early_sizes, fault_of_text, first_violation, plain_text, read_strictly,
-    results_are_apart, results_read_back, run, types_of_header,
+    Known, Operands, PartitionRows, Sizes, Stats, Step, TextKey, UnkeptRows, Unwritten, Watch,
+    bind_clause, complete_types, count, early_sizes, fault_of_text, first_violation, open_tables,
+    plain_text, read_strictly, results_are_apart, results_read_back, run, takes_any,
+    types_of_header, write_joined,
 };
 pub use rj_engine::{Gate, OpenGate, Place, Violation};
 pub use rj_line::fault::{

@@ -1,8 +1,10 @@
 -- What a join of two files takes in memory, as far as that is known when memory has run out.
 use Rattle.std.specs.Prelude.{ℕ, ◌≡◌, ◌≢◌, ◌⊎◌, ◌+◌, ◌*◌, ◌/◌, ◌==◌, ◌&&◌, Bool, true, false, nat_lt, if◌then◌else◌, List, [], ◌∷◌, ◌++◌, codes, decimal, length, Option, None, Some}
-use Rattle.rj_command.specs.Operands.{IsFirstFault}
-use Rattle.rj_command.specs.Sizes.{AreSizes}
+use Rattle.rj_command.specs.Operands.{AreOperands, IsFirstFault}
+use Rattle.rj_command.specs.Sizes.{AreKnown, AreSizes}
+use Rattle.rj_command.specs.declared.join.operands.Operands.{Operands}
 use Rattle.rj_command.specs.declared.join.sizes.Sizes.{Sizes}
+use Rattle.rj_command.specs.declared.join.unwritten.Known.{Known}
 use Rattle.rj_engine.specs.declared.counts.Counts.{Counts}
 use Rattle.rj_explain.specs.declared.inputs.Inputs.{Inputs}
 use Rattle.rj_line.specs.declared.fault.Fault.{Fault}
@@ -27,10 +29,10 @@ abbrev pub files_text : FileSizes → List ℕ
 files_text files = codes "  the files have " ++ (size_text files.left ++ (codes " and " ++ (size_text files.right
     ++ (codes ", and their tables take about as much again" ++ 10 ∷ []))))
 
--- the line if memory ran out once more, when the tables were read again and the members of their
--- joined table counted
+-- the line if memory ran out once more, when the members of the joined table were counted, and the
+-- tables read again before, if they weren't there any more
 abbrev pub tables_text : List ℕ
-tables_text = codes "  it ran out once more when the tables were read again: the likely cause is the tables" ++ 10 ∷ []
+tables_text = codes "  it ran out once more when these were looked at again: the likely cause is the tables" ++ 10 ∷ []
 
 -- the mean length of a file's rows
 abbrev pub mean_length : ℕ → ℕ → ℕ
@@ -109,3 +111,8 @@ abbrev pub IsMemoryTold : Bool → Inputs → List ℕ → Type 0
 IsMemoryTold count inputs text =
     ((count ≡ true) × (text ≡ files_text (sizes_of inputs)))
     ⊎ ((count ≡ false) × ((more : List ℕ) × IsMoreTold inputs more × (text ≡ files_text (sizes_of inputs) ++ more)))
+
+-- this is known of the tables of two files
+abbrev pub AreFilesOf : Inputs → Known → Type 0
+AreFilesOf inputs k =
+    (o : Operands) × AreOperands inputs.left.now inputs.right.now inputs.request.now o.left o.right o.join × AreKnown o k

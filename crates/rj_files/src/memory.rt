@@ -1,10 +1,11 @@
 //! What a join of two files takes in memory, as far as that is known when memory has run out.
 
-ghost use Rattle.std.specs.Prelude.{◌≡◌, IfOk, string_bytes};
+ghost use Rattle.std.specs.Prelude.{◌≡◌, IfOk, false, string_bytes};
+ghost use Rattle.rj_command.specs.Sizes.{IsBound};
 ghost use Rattle.rj_files.specs.Memory as memory;
-ghost use Rattle.rj_files.specs.Memory.{IsMemoryTold, IsMoreTold, files_text, members_text, sizes_text, unknown_text};
+ghost use Rattle.rj_files.specs.Memory.{AreFilesOf, IsMemoryTold, IsMoreTold, files_text, members_text, sizes_text, unknown_text};
 
-use rj_command::{Line, Request, Sizes, early_sizes};
+use rj_command::{Known, Line, Request, Sizes, early_sizes};
 use rj_engine::Counts;
 use rj_explain::Inputs;
 use rj_line::fault::Fault;
@@ -13,13 +14,13 @@ use std::thread::Threads;
 
 // The line if memory runs out once more.
 const TABLES_TEXT: &str =
-    "  it ran out once more when the tables were read again: the likely cause is the tables\n";
+    "  it ran out once more when these were looked at again: the likely cause is the tables\n";
 
-// How many bytes the two files have.
+/// How many bytes the two files have.
 #[derive(Clone, Copy)]
-struct FileSizes {
-    left: u64,
-    right: u64,
+pub(crate) struct FileSizes {
+    pub(crate) left: u64,
+    pub(crate) right: u64,
 }
 
 // A number of bytes, in whole kB or MB if it is large.
@@ -221,6 +222,45 @@ pub(crate) fn memory_lines<R: AllocGlobal + Threads + Sync>(
         return Ok(lines);
     }
     let more = more_lines(rt, inputs, files)?;
+    lines.push_str(more.as_str())?;
+    Ok(lines)
+}
+
+// The lines behind that for the files, by what is known of their tables.
+fn known_lines(
+    alloc: Global,
+    request: &Request<'_>,
+    files: FileSizes,
+    known: &Known,
+) -> Result<String, AllocError>
+    requires { IsBound known.now }
+    ensures { (inputs : Inputs) → AreFilesOf inputs known.now → files ≡ memory.sizes_of inputs → request.now ≡ inputs.request.now
+        → IfOk result (λ s. IsMoreTold inputs (string_bytes s)) }
+{
+    match known.sizes(alloc) {
+        Ok(sizes) => sizes_lines(alloc, request, files, &sizes),
+        Err(_) => String::from_str(alloc, TABLES_TEXT),
+    }
+}
+
+/// The lines of [`memory_lines`] for a joined table that isn't written, by what is known of its
+/// tables. The bytes of their files aren't needed.
+///
+/// # Errors
+///
+/// It fails only when memory runs out.
+pub(crate) fn memory_lines_by(
+    alloc: Global,
+    request: &Request<'_>,
+    files: FileSizes,
+    known: &Known,
+) -> Result<String, AllocError>
+    requires { IsBound known.now }
+    ensures { (inputs : Inputs) → AreFilesOf inputs known.now → files ≡ memory.sizes_of inputs → request.now ≡ inputs.request.now
+        → IfOk result (λ s. IsMemoryTold false inputs (string_bytes s)) }
+{
+    let mut lines = files_line(alloc, files)?;
+    let more = known_lines(alloc, request, files, known)?;
     lines.push_str(more.as_str())?;
     Ok(lines)
 }

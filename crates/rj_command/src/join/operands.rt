@@ -26,12 +26,15 @@ use std::alloc::Global;
 use std::convert::AsSlice;
 use std::thread::Threads;
 
-// The tables that the bytes denote, and the clause bound to them.
+/// The tables that the bytes of two files denote, and the clause bound to them.
 #[derive(Drop)]
-pub(crate) struct Operands {
-    pub(crate) left: Table,
-    pub(crate) right: Table,
-    pub(crate) join: BoundJoin,
+pub struct Operands {
+    /// The left table.
+    pub left: Table,
+    /// The right table.
+    pub right: Table,
+    /// The join.
+    pub join: BoundJoin,
 }
 
 impl Operands {

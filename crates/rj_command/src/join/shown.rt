@@ -6,7 +6,7 @@ ghost use Rattle.rj_line.specs.Shown.{shown};
 use rj_line::shown::Shown;
 use std::alloc::{AllocError, Global};
 
-/// A text as a report shows it, on one line.
+/// A text as a report shows it, on one line: its first 60 bytes, and how many more there are.
 ///
 /// # Errors
 ///

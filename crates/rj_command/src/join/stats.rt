@@ -3,6 +3,7 @@
 ghost use Rattle.std.specs.Prelude.{◌≡◌, Some};
 ghost use Rattle.rj_command.specs.Statistics.{keeping_type, partition_text, stats_text, text_key_text, unkept_text};
 
+use rj_engine::Counts;
 use rj_line::fault::Side;
 use std::fmt;
 
@@ -60,6 +61,19 @@ pub struct Stats {
     /// The table whose unmatched rows are asked for by themselves, though the join's type keeps none.
     /// It isn't in the text of the statistics.
     pub unkept: Option<Side>,
+}
+
+impl Stats {
+    // The members of the joined table.
+    pub(crate) fn counts(&self) -> Counts
+        ensures { result ≡ record { pairs = self.now.pairs; lone_left = self.now.lone_left; lone_right = self.now.lone_right } }
+    {
+        Counts {
+            pairs: self.pairs,
+            lone_left: self.lone_left,
+            lone_right: self.lone_right,
+        }
+    }
 }
 
 impl fmt::Display for PartitionRows {

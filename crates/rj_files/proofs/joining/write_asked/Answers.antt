@@ -10,7 +10,7 @@ returns-clause-fault g c =
     subst (λ (f : Fault). IsAskedFault c.args.line.now c.args.tables.left.items c.args.tables.right.items f) (sym c.explained.ensures.fault) why
 
 pub returns-clause-asked : goal.returns-clause-asked
-returns-clause-asked g c asks =
+returns-clause-asked g c asks other =
     let inputs = c.inputs-inputs in
     subst (λ (f : Fault). AreLinesBy c.args.line.now c.args.tables.left.items c.args.tables.right.items f c.explained.result.lines) (sym c.explained.ensures.fault)
     (inputs.result, inputs.ensures.left, inputs.ensures.right, inputs.ensures.request, c.explained.ensures.lines)
