@@ -60,7 +60,7 @@ def begun(python, words, folder, *more, environment=None):
     """Starts the script."""
     words = [python, cluster.SCRIPT, *words, *([] if {"--parts", "--memory"} & {*more} else ["--parts", "3"]), *([] if "--out" in more else ["--out", "out.csv"]), *more]
     # (these tests may be run by nohup, which has the script go on when its terminal is gone)
-    how = {"stdin": subprocess.DEVNULL, "stdout": subprocess.DEVNULL, "stderr": subprocess.PIPE, "env": environment, "preexec_fn": lambda: signal.signal(signal.SIGHUP, signal.SIG_DFL)}
+    how = {"stdin": subprocess.DEVNULL, "stdout": subprocess.DEVNULL, "stderr": subprocess.PIPE, "env": environment, "preexec_fn": lambda: signal.signal(signal.SIGHUP, signal.SIG_DFL), "start_new_session": True}
     return subprocess.Popen([str(word) for word in words], cwd=folder, **how)
 
 
@@ -74,18 +74,25 @@ def number_in(programs, name):
     return None
 
 
-def is_ended(number):
-    """Whether a process ends soon."""
+def state_and_session(process):
+    """The state of a process and the number of its session, by its folder in /proc; of none if it has gone."""
+    try:
+        it = (process / "stat").read_text().rpartition(")")[2].split()
+    except (FileNotFoundError, ProcessLookupError):
+        return "Z", 0
+    return it[0], int(it[3])
+
+
+def goes_on(session):
+    """The processes of a session that don't end soon. (What a shell has begun goes on for a moment where the shell is killed: its mkdir still
+    makes a folder.)"""
     until = time.monotonic() + cluster.SECONDS
-    while time.monotonic() < until:
-        try:
-            state = pathlib.Path(f"/proc/{number}/stat").read_text().rpartition(")")[2].split()[0]
-        except (FileNotFoundError, ProcessLookupError):
-            return True
-        if state == "Z":
-            return True
+    while True:
+        states = {it.name: state_and_session(it) for it in pathlib.Path("/proc").glob("[0-9]*")}
+        found = [number for number, (state, its) in states.items() if its == session and state != "Z"]
+        if not found or time.monotonic() > until:
+            return found
         time.sleep(0.05)
-    return False
 
 
 def run_process_killed(on, name, more, tally):
@@ -157,13 +164,13 @@ def run_told_to_end(python, name, number, again, tally):
         (folder / "out.csv").write_text("before")
         known = {it.name for it in folder.iterdir()}
         running = begun(python, words, folder, "--processes", "2", "--programs", programs)
-        program = number_in(programs, name)
+        runs = number_in(programs, name)
         running.send_signal(number)
         time.sleep(0.05)
         running.send_signal(again)
         ran = cluster.ended(running)
-        faults = [] if program else [f"{name} didn't run"]
-        faults += [] if program is None or is_ended(program) else [f"{name} goes on"]
+        faults = [] if runs else [f"{name} didn't run"]
+        faults += [f"{it} goes on" for it in goes_on(running.pid)]
         faults += harness.differences(harness.Ran(ran.returncode, b"", ran.stderr), b"", b"", 128 + number)
         faults += [] if (folder / "out.csv").read_text() == "before" else ["out.csv is another one"]
         faults += [f"{it} was left behind" for it in cluster.left_behind(folder, known)]

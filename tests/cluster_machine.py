@@ -184,13 +184,14 @@ def run_interrupted(tally):
                 programs = cluster_ends.programs_in(folder / "programs", name, cluster_ends.WAITS.format("$$"))
                 known = {it.name for it in folder.iterdir()}
                 # (these tests may be run in the background, where what a shell starts doesn't heed the keyboard)
-                how = {"cwd": folder, "stdout": subprocess.PIPE, "preexec_fn": lambda: signal.signal(signal.SIGINT, signal.SIG_DFL)}
+                how = {"cwd": folder, "stdout": subprocess.PIPE, "preexec_fn": lambda: signal.signal(signal.SIGINT, signal.SIG_DFL), "start_new_session": True}
                 with subprocess.Popen([sys.executable, "-c", JOINS.format(PACKAGE)], **how) as running:
-                    number = cluster_ends.number_in(programs, name)
+                    runs = cluster_ends.number_in(programs, name)
                     os.kill(running.pid, way)
                     got, _ = running.communicate(timeout=cluster.SECONDS)
                 faults = [f"{got}, and not {told}"] if got != told else []
-                faults += [] if number and cluster_ends.is_ended(number) else [f"{number} goes on"]
+                faults += [] if runs else [f"{name} didn't run"]
+                faults += [f"{it} goes on" for it in cluster_ends.goes_on(running.pid)]
                 faults += [f"{it} was left behind" for it in cluster.left_behind(folder, known)] if way == signal.SIGINT else []
                 tally.check(f"cluster_machine: {way.name} while {name} runs", faults)
 

@@ -302,13 +302,14 @@ def run_told_to_end(number, tally):
         (folder / "out.csv").write_text("before")
         known = {it.name for it in folder.iterdir()}
         running = cluster_ends.begun(sys.executable, words, folder, "--programs", programs, *MUCH)
-        program = cluster_ends.number_in(programs, "radixjoin")
+        runs = cluster_ends.number_in(programs, "radixjoin")
         running.send_signal(number)
         time.sleep(0.05)
         running.send_signal(signal.SIGTERM)
         ran = cluster.ended(running)
         faults = harness.differences(harness.Ran(ran.returncode, b"", ran.stderr), b"", b"", 128 + number)
-        faults += [] if program and cluster_ends.is_ended(program) else [f"{program} goes on, or didn't run"]
+        faults += [] if runs else ["it didn't run"]
+        faults += [f"{it} goes on" for it in cluster_ends.goes_on(running.pid)]
         faults += [] if (folder / "out.csv").read_text() == "before" else ["out.csv is another one"]
         tally.check(f"cluster_memory: one run is told to end by {number.name}", faults + [f"{it} was left behind" for it in cluster.left_behind(folder, known)])
 
