@@ -1,4 +1,5 @@
 pub mod Marked
+pub mod MatchFacts
 pub mod Members
 pub mod Grouped
 pub mod Partitioning

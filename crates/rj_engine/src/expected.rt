@@ -7,6 +7,7 @@ ghost use Rattle.rj_engine.specs.Results.{joined_of};
 
 use crate::joined::Joined;
 use crate::marks::{PairSide, lone_rows, mark, row_on};
+use crate::match_ranges::MatchRanges;
 use rj_columns::Table;
 use rj_condition::BoundJoin;
 use rj_settings::{Expectation, Matching};
@@ -15,7 +16,7 @@ use std::alloc::{AllocError, Global};
 // Whether none of this many rows of a side is in two of the matches.
 fn are_distinct(
     alloc: Global,
-    pairs: &[(u32, u32)],
+    pairs: &MatchRanges,
     side: PairSide,
     count: u32,
 ) -> Result<bool, AllocError>
@@ -23,8 +24,8 @@ fn are_distinct(
     ensures { IfOk result (λ b. IsTrue b ↔ AreDistinct (map (row_on side) pairs.now)) }
 {
     let mut marks = vec![in alloc; false; count as usize]?;
-    for pair in pairs {
-        let row = row_on(side, *pair);
+    for place in 0..pairs.len() {
+        let row = row_on(side, pairs.get(place));
         if marks[row as usize] {
             return Ok(false);
         }
@@ -36,7 +37,7 @@ fn are_distinct(
 // Whether the matches are as the matching asks, given how many left and right rows there are.
 fn are_matched(
     alloc: Global,
-    pairs: &[(u32, u32)],
+    pairs: &MatchRanges,
     matching: Option<Matching>,
     lefts: u32,
     rights: u32,
@@ -62,7 +63,7 @@ fn are_matched(
 // Whether each of this many left rows is in a match, if that is asked for.
 fn has_no_lone(
     alloc: Global,
-    pairs: &[(u32, u32)],
+    pairs: &MatchRanges,
     matched: bool,
     lefts: u32,
 ) -> Result<bool, AllocError>

@@ -13,6 +13,7 @@ mod groups;
 mod joined;
 mod laws;
 mod marks;
+mod match_ranges;
 mod naming;
 mod origin;
 mod parallel_join;

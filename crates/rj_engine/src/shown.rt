@@ -6,6 +6,7 @@ ghost use Rattle.rj_condition.specs.Fits.{fits};
 ghost use Rattle.rj_engine.specs.Cells.{joined_cell, left_cell, members_rows, right_cell, scale_of, shown_scale, view_of};
 ghost use Rattle.rj_engine.specs.Cells.{IsColumnOf, IsLeftRow, IsMemberOf, IsRightRow, IsScaledWithin};
 ghost use Rattle.rj_engine.specs.Chosen.{chosen_view, shown_rows};
+ghost use Rattle.rj_engine.specs.Join.{rows_in};
 ghost use Rattle.rj_engine.specs.Results.{joined_of};
 ghost use Rattle.rj_engine.specs.Shown.{HasColumnsOf, IsShownOf, counted_from, rows_between, shown_view};
 ghost use Rattle.rj_engine.specs.declared.origin.Origin.{Origin};
@@ -119,8 +120,38 @@ pub(crate) fn add_shown<'s>(
     let (from, to) = (places.start, places.end);
     match &shown.chosen {
         Some(rows) => add_chosen(cells, tables, &rows[from..to], origin, scale),
-        None => add_members(cells, tables, joined.members(from, to), origin, scale),
+        None => add_places(cells, tables, joined, places, origin, scale),
     }
+}
+
+// Adds the cells of the members at these places in a column that is given in this scale: of the
+// matches list by list, and then of the unmatched rows.
+fn add_places<'s>(
+    cells: &mut Vec<Cell<'s>>,
+    tables: &Tables<'s>,
+    joined: &Joined,
+    places: Range<usize>,
+    origin: Origin,
+    scale: u8,
+) -> Result<(), AllocError>
+    requires order { places.start ≤ places.end }
+    requires rows { All (λ row. IsMemberOf tables.now.left.now tables.now.right.now (counted_from tables.now.first row))
+        (rows_between places.start places.end (rows_in joined.now.members)) }
+    requires column { IsColumnOf tables.now.left.now tables.now.right.now origin }
+    requires scale { scale ≡ shown_scale tables.now.left.now tables.now.right.now origin }
+    ensures { OnOk result (map content_of cells.new.items ≡ map content_of cells.old.items
+        ++ map (λ row. joined_cell tables.now.left.now tables.now.right.now (counted_from tables.now.first row) origin)
+        (rows_between places.start places.end (rows_in joined.now.members))) }
+{
+    let (from, to) = (places.start, places.end);
+    let ranges = joined.kept_pairs().ranges();
+    let mut before = 0usize;
+    for range in ranges {
+        let members = Members::of_range(range, before, from, to);
+        add_members(cells, tables, members, origin, scale)?;
+        before += range.len();
+    }
+    add_members(cells, tables, joined.lone_members(from, to), origin, scale)
 }
 
 // Adds the cells of consecutive members in a column that is given in this scale.

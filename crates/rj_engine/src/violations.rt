@@ -9,6 +9,7 @@ ghost use Rattle.rj_engine.specs.Violations.{IsFirstRepeated, IsLoneViolation, I
 use crate::expected::has_at_most;
 use crate::joined::Joined;
 use crate::marks::{PairSide, lone_rows, row_on};
+use crate::match_ranges::MatchRanges;
 use rj_columns::Table;
 use rj_condition::BoundJoin;
 use rj_settings::{Expectation, Matching};
@@ -61,17 +62,20 @@ fn first_repeated(
 }
 
 // The rows of the pairs on a side.
-fn rows_on(alloc: Global, pairs: &[(u32, u32)], side: PairSide) -> Result<Vec<u32>, AllocError>
+fn rows_on(alloc: Global, pairs: &MatchRanges, side: PairSide) -> Result<Vec<u32>, AllocError>
     ensures { IfOk result (λ v. v.items ≡ map (row_on side) pairs.now) }
 {
-    let rows: Vec<u32> = pairs.iter().map(|pair| row_on(side, *pair)).collect(alloc)?;
+    let mut rows = Vec::with_capacity(alloc, pairs.len())?;
+    for place in 0..pairs.len() {
+        rows.push(row_on(side, pairs.get(place)))?;
+    }
     Ok(rows)
 }
 
 // The first left row that is in more than one of the matches.
 fn left_violation(
     alloc: Global,
-    pairs: &[(u32, u32)],
+    pairs: &MatchRanges,
     lefts: u32,
 ) -> Result<Option<Violation>, AllocError>
     requires { All (λ p. p.0 < lefts) pairs.now }
@@ -87,7 +91,7 @@ fn left_violation(
 // The first right row that is in more than one of the matches.
 fn right_violation(
     alloc: Global,
-    pairs: &[(u32, u32)],
+    pairs: &MatchRanges,
     rights: u32,
 ) -> Result<Option<Violation>, AllocError>
     requires { All (λ p. p.1 < rights) pairs.now }
@@ -103,7 +107,7 @@ fn right_violation(
 // The first left row that is in more than one of the matches, or else the first right one.
 fn either_violation(
     alloc: Global,
-    pairs: &[(u32, u32)],
+    pairs: &MatchRanges,
     lefts: u32,
     rights: u32,
 ) -> Result<Option<Violation>, AllocError>
@@ -124,7 +128,7 @@ fn either_violation(
 // rows there are.
 fn pair_violation(
     alloc: Global,
-    pairs: &[(u32, u32)],
+    pairs: &MatchRanges,
     matching: Option<Matching>,
     lefts: u32,
     rights: u32,
@@ -144,7 +148,7 @@ fn pair_violation(
 // The first of this many left rows that is in no match, if each has to be in one.
 fn lone_violation(
     alloc: Global,
-    pairs: &[(u32, u32)],
+    pairs: &MatchRanges,
     matched: bool,
     lefts: u32,
 ) -> Result<Option<Violation>, AllocError>

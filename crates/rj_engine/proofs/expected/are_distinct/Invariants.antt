@@ -3,6 +3,6 @@ use Rattle.rj_engine.specs.Expected.{AreDistinct}
 use Rattle.rj_engine.specs.Internal.Marks.{IsMarked, row_on}
 use Rattle.rj_engine.proofs.expected.are_distinct.Given as goal
 
-abbrev pub invariant-loop-pair : goal.invariant-loop-pair
-invariant-loop-pair l =
-    IsMarked (map (row_on l.side) (take l.pair-index l.pairs)) l.count l.marks.items × AreDistinct (map (row_on l.side) (take l.pair-index l.pairs))
+abbrev pub invariant-loop-place : goal.invariant-loop-place
+invariant-loop-place l =
+    IsMarked (map (row_on l.side) (take l.place l.pairs)) l.count l.marks.items × AreDistinct (map (row_on l.side) (take l.place l.pairs))
