@@ -1,6 +1,6 @@
 //! The place in the fields of a record.
 
-ghost use Rattle.std.specs.Prelude.{◌≡◌, [], None, Some, IfSome, true, if◌then◌else◌, slice_index_or};
+ghost use Rattle.std.specs.Prelude.{◌≡◌, ◌<◌, ◌≤◌, ◌+◌, ◌*◌, ◌^◌, [], None, Some, IfSome, true, if◌then◌else◌, slice_index_or};
 ghost use Rattle.std.specs.Str.{all_ascii_digits};
 ghost use Rattle.std.specs.Str.Parse.{digits_value};
 ghost use Rattle.csv.specs.Records.{fields_of};
@@ -15,6 +15,22 @@ use csv::ByteRecord;
 use rj_settings::RowOrder;
 use std::str;
 
+// One more digit fits behind each number up to this one.
+const SAFE: u64 = 1_000_000_000_000_000_000;
+
+// A number with one more digit, if it fits 64 bits.
+#[inline(always)]
+fn with_digit(value: u64, digit: u64) -> Option<u64>
+    requires { digit < 10 }
+    ensures some { IfSome result (λ n. n ≡ value * 10 + digit) }
+    ensures none { result ≡ None → 2 ^ 64 ≤ value * 10 + digit }
+{
+    if value <= SAFE {
+        return Some(value * 10 + digit);
+    }
+    value.checked_mul(10)?.checked_add(digit)
+}
+
 // The number that a field of digits writes, if it fits 64 bits.
 fn whole_number(field: &[u8]) -> Option<u64>
     ensures { result ≡ (if is_number field.now then Some (digits_value 10 field.now) else None) }
@@ -28,7 +44,7 @@ fn whole_number(field: &[u8]) -> Option<u64>
         if !byte.is_ascii_digit() {
             return None;
         }
-        value = value.checked_mul(10)?.checked_add((byte - b'0') as u64)?;
+        value = with_digit(value, u64::from(byte - b'0'))?;
     }
     Some(value)
 }
