@@ -91,6 +91,20 @@ fn stands_within(first: u32, end: u32, row: JoinedRow) -> bool
     }
 }
 
+// A place up to which all members from another one are matches whose left rows are within, if all of
+// the joined table is shown. Then it is looked for in the lists of the matches, without getting each.
+fn match_end(joined: &Joined, shown: &Shown, from: usize, to: usize, first: u32, end: u32) -> usize
+    requires { from ≤ to }
+    ensures from { from ≤ result }
+    ensures to { result ≤ to }
+    ensures rows { All (StandsWithin first end) (rows_between from result (shown_rows shown.now.chosen joined.now.members)) }
+{
+    match &shown.chosen {
+        Some(_) => from,
+        None => joined.kept_pairs().end_within(first, end, from, to),
+    }
+}
+
 // Where a run ends that begins at a place: at the next member whose left row isn't within, or when
 // it has as many members as a run can have.
 fn end_of_run(joined: &Joined, shown: &Shown, from: usize, first: u32, end: u32) -> usize
@@ -101,7 +115,8 @@ fn end_of_run(joined: &Joined, shown: &Shown, from: usize, first: u32, end: u32)
     ensures rows { All (StandsWithin first end) (rows_between from result (shown_rows shown.now.chosen joined.now.members)) }
 {
     let most = count_of(&shown.chosen, joined).min(from.saturating_add(MOST_ROWS));
-    for place in from..most {
+    let begun = match_end(joined, shown, from, most, first, end);
+    for place in begun..most {
         if !stands_within(first, end, row_at(&shown.chosen, joined, place)) {
             return place;
         }
