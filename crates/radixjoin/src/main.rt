@@ -80,11 +80,7 @@ fn tell_joined<R: Eprint>(rt: &R, line: &Line<'_>, stats: &Stats) {
 }
 
 // Reads words with their lists of types, and writes what they ask for.
-fn join<R>(
-    rt: &R,
-    words: Vec<String>,
-    terminals: Terminals,
-) -> Result<(), ExplainedFault>
+fn join<R>(rt: &R, words: Vec<String>, terminals: Terminals) -> Result<(), ExplainedFault>
 where
     R: Files + Input + AllocGlobal + Print + Eprint + Threads + Wait + Clock + Sync,
     R::File: FileExt + Sync,
@@ -103,11 +99,7 @@ where
 }
 
 // Prints the types that a file's cells suggest, or why there are none, and returns the exit status.
-fn tell_types<R>(
-    rt: &R,
-    words: &[&str],
-    asking: Asking,
-) -> u8
+fn tell_types<R>(rt: &R, words: &[&str], asking: Asking) -> u8
 where
     R: Files + Input + AllocGlobal + Print + Eprint + Clock,
     R::File: FileExt + Sync,
@@ -120,10 +112,7 @@ where
 }
 
 // Reads the command line, does what it asks for, and returns the exit status.
-fn run<R>(
-    rt: &R,
-    terminals: Terminals,
-) -> Result<u8, ExplainedFault>
+fn run<R>(rt: &R, terminals: Terminals) -> Result<u8, ExplainedFault>
 where
     R: Env + Files + Input + AllocGlobal + Print + Eprint + Threads + Wait + Clock + Sync,
     R::File: FileExt + Sync,

@@ -11,7 +11,6 @@ use crate::reading::{OpenStream, Stream};
 use std::alloc::{AllocError, Global};
 use std::fs::{self, Files, OpenFile};
 use std::io::{self, ErrorKind, Read};
-use std::marker::Sync;
 use std::os::unix::fs::FileExt;
 
 /// Whether a name means standard input (of an input) or standard output (of an output).

@@ -46,11 +46,7 @@ fn read_again_at<F: ReadAt>(file: &F, buffer: &mut [u8], place: u64) -> io::Resu
 }
 
 /// Reads at most a piece of the bytes from a place on. It repeats a read that a signal interrupted.
-pub(crate) fn read_piece_at<F: ReadAt>(
-    file: &F,
-    buffer: &mut [u8],
-    place: u64,
-) -> io::Result<usize>
+pub(crate) fn read_piece_at<F: ReadAt>(file: &F, buffer: &mut [u8], place: u64) -> io::Result<usize>
     ensures bound { ReadsAtMost result buffer.new }
     ensures bytes { IfOk result (λ k. IfSome (F.bytes file.now) (λ xs. take k buffer.new ≡ take k (drop place xs))) }
     ensures end { IfOk result (λ k. k ≡ 0 → 0 < length buffer.new → IfSome (F.bytes file.now) (λ xs. length xs ≤ place)) }

@@ -15,7 +15,6 @@ use rj_csv_io::{CountedReader, ReadRefused, read_all};
 use rj_line::fault::{Fault, Side};
 use std::alloc::{AllocError, Global};
 use std::io::{self, ErrorKind, Read};
-use std::marker::Sync;
 use std::thread::Threads;
 use std::time::Clock;
 
@@ -161,7 +160,12 @@ pub(crate) fn read_stream<R: Eprint + Clock, S: Stream>(
         Ok(opened) => opened,
         Err(fault) => return Err(fault),
     };
-    read_bytes(alloc, opened.reader, opened.likely_size, FileLabel::One(side))
+    read_bytes(
+        alloc,
+        opened.reader,
+        opened.likely_size,
+        FileLabel::One(side),
+    )
 }
 
 // The bytes of a reader, to its end, as this many threads read them: each a range of them, if they
@@ -185,7 +189,7 @@ fn read_opened<R: Threads + Sync, F: Read + ReadAt + Sync + Drop>(
         return read_bytes(alloc, reader, likely_size, label);
     }
     match read_by(rt, alloc, &reader, likely_size as usize, threads as usize) {
-        Ok(bytes) => Ok(bytes),
+        Ok(whole) => Ok(whole),
         Err(refused) => Err(unread(refused, label)),
     }
 }

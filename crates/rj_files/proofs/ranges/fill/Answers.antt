@@ -9,7 +9,7 @@ pub loop-filled-preserved : goal.loop-filled-preserved
 loop-filled-preserved g c = record {
   fits = c.in_ok-read.ensures.fits;
   bytes = filled-more (g.F.ReadAt.bytes c.args.file.now) c.args.place c.loop-filled.filled c.in_ok-read.read c.loop-filled.buffer c.read_behind.new.buffer
-  c.in_ok-read.ensures.front c.loop-filled.invariant.bytes c.in_ok-read.ensures.bytes;
+      c.in_ok-read.ensures.front c.loop-filled.invariant.bytes c.in_ok-read.ensures.bytes;
 }
 
 pub returns-then-read-eq0 : goal.returns-then-read-eq0
