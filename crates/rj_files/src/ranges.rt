@@ -1,6 +1,6 @@
 //! The bytes of a file that threads read, each a range of them.
 
-ghost use Rattle.std.specs.Prelude.{◌≡◌, ◌<◌, ◌≤◌, ◌+◌, ◌^◌, IfOk, IfErr, IfSome, OnOk, Ok, drop, length, take};
+ghost use Rattle.std.specs.Prelude.{◌≡◌, ◌<◌, ◌≤◌, ◌+◌, ◌^◌, IfOk, IfSome, Ok, drop, length, take};
 ghost use Rattle.std.specs.Thread.{IsSync};
 ghost use Rattle.rj_files.specs.Places.{FillsFrom};
 ghost use Rattle.rj_files.specs.Streams.{AreBytesOf};
@@ -51,6 +51,36 @@ fn fill<F: ReadAt>(file: &F, buffer: &mut [u8], place: u64) -> Result<usize, Fai
     Ok(filled)
 }
 
+// Fills two buffers with the bytes from a place on, first the front, by this many threads, and
+// returns how many they are in each.
+#[cycle(halves)]
+fn fill_halves<R: Threads + Sync, F: ReadAt + Sync>(
+    rt: &R,
+    file: &F,
+    threads: usize,
+    place: u64,
+    front: &mut [u8],
+    back: &mut [u8],
+) -> (Result<usize, Failed>, Result<usize, Failed>)
+    requires threads { 2 ≤ threads }
+    requires places { place + length front.old + length back.old < 2 ^ 64 }
+    ensures front { IfOk result.0 (λ k. FillsFrom (F.bytes file.now) place k front.new) }
+    ensures back { IfOk result.1 (λ k. FillsFrom (F.bytes file.now) (place + length front.old) k back.new) }
+{
+    let low = threads / 2;
+    let high = threads - low;
+    let up = place + front.len() as u64;
+    let mut first = || -> Result<usize, Failed>
+        requires { IsSync R.row × IsSync F.row × (place + length front.now < 2 ^ 64) }
+        ensures { IfOk result (λ k. FillsFrom (F.bytes file.entry.now) place k front.exit.now) }
+    { fill_by(rt, file, low, place, front) };
+    let mut second = || -> Result<usize, Failed>
+        requires { IsSync R.row × IsSync F.row × (up + length back.now < 2 ^ 64) }
+        ensures { IfOk result (λ k. FillsFrom (F.bytes file.entry.now) up k back.exit.now) }
+    { fill_by(rt, file, high, up, back) };
+    join_mut(rt, &mut first, &mut second)
+}
+
 // Fills a buffer with the bytes from a place on, by this many threads, each a range of it, and
 // returns how many they are.
 #[cycle(halves)]
@@ -67,26 +97,15 @@ fn fill_by<R: Threads + Sync, F: ReadAt + Sync>(
     if threads < 2 {
         return fill(file, buffer, place);
     }
-    let low = threads / 2;
-    let len = buffer.len() / threads * low;
+    let len = buffer.len() / threads * (threads / 2);
     let (front, back) = buffer.split_at_mut(len);
-    let up = place + len as u64;
-    let high = threads - low;
-    let mut first = || -> Result<usize, Failed>
-        requires { IsSync R.row × IsSync F.row × (place + length front.now < 2 ^ 64) }
-        ensures { IfOk result (λ k. FillsFrom (F.bytes file.entry.now) place k front.exit.now) }
-    { fill_by(rt, file, low, place, front) };
-    let mut second = || -> Result<usize, Failed>
-        requires { IsSync R.row × IsSync F.row × (up + length back.now < 2 ^ 64) }
-        ensures { IfOk result (λ k. FillsFrom (F.bytes file.entry.now) up k back.exit.now) }
-    { fill_by(rt, file, high, up, back) };
-    let (first, second) = join_mut(rt, &mut first, &mut second);
-    let front = first?;
-    let back = second?;
-    if front < len {
-        Ok(front)
+    let (first, second) = fill_halves(rt, file, threads, place, front, back);
+    let first = first?;
+    let second = second?;
+    if first < len {
+        Ok(first)
     } else {
-        Ok(len + back)
+        Ok(len + second)
     }
 }
 
