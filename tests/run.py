@@ -27,6 +27,7 @@ PARTS = (
     "soak",
     "examples",
     "devices",
+    "ranges",
     "sizes",
     "segments",
     "cluster",

@@ -1,6 +1,7 @@
 pub mod DraftFacts
 pub mod LetterFacts
 pub mod ListFacts
+pub mod PlaceFacts
 pub mod SuggestedFacts
 pub mod TextFacts
 pub mod ToldFacts
