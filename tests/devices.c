@@ -131,10 +131,8 @@ int statx(int folder, const char *path, int flags, unsigned mask, struct statx *
     if (!next_statx)
         next_statx = dlsym(RTLD_NEXT, "statx");
     int answer = next_statx(folder, path, flags, mask, found);
-    if (!answer && reads && size_more && !*path && is_input(folder)) {
-        long long size = (long long)found->stx_size + size_more;
-        found->stx_size = size < 0 ? 0 : (unsigned long long)size;
-    }
+    if (!answer && reads && size_more && !*path && is_input(folder))
+        found->stx_size += (unsigned long long)size_more;
     return answer;
 }
 

@@ -67,9 +67,8 @@ def sizes_and_workers(tally):
 
 
 def told_sizes(tally):
-    """A file that tells to have more bytes than it has, or fewer, as one that becomes shorter or longer meanwhile; and one for whose size
-    there is no memory."""
-    for more in (-(LEAST // 4), -1, 1, PIECE, 3 * LEAST, 1 << 62):
+    """A file that tells to have more bytes than it has, or fewer, as one that becomes shorter or longer meanwhile."""
+    for more in (-(LEAST // 4), -1, 1, PIECE, 3 * LEAST):
         for workers in (1, 3):
             run = run_of(2 * LEAST + 1, True, workers)
             with harness.folder() as name:

@@ -85,13 +85,6 @@ consumes-filled (Some xs) k buffer (fits, h) =
     let same : take k xs ≡ take (length buffer) xs = ap (λ m. take m xs) (sym many) ∙ take_min (length buffer) xs in
     sym (take-append-drop k xs) ∙ ap (λ front. front ++ drop k xs) (same ∙ sym h)
 
--- the bytes that a list of them begins with
-pub consumes-start : (known : Option (List ℕ)) (k : ℕ) (buffer items : List ℕ) → items ≡ take k buffer → FillsFrom known 0 k buffer
-    → Consumes known (known_from (length items) known) items
-consumes-start known k buffer items e h =
-    let size : length items ≡ k = ap length e ∙ length-take-le k buffer h.0 in
-    rw (size, e) (consumes-filled known k buffer h)
-
 -- the first bytes of a list that a full buffer was put back into
 pub cut-back : (k n : ℕ) (buffer room : List ℕ) → k ≤ length buffer → length buffer ≤ n → take k (take n (buffer ++ drop (length buffer) room)) ≡ take k buffer
 cut-back k n buffer room fits long = take-take k n (buffer ++ drop (length buffer) room) (omega (arith, fits, long)) ∙ take-append-le k buffer (drop (length buffer) room) fits

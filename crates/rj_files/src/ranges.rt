@@ -2,8 +2,7 @@
 
 ghost use Rattle.std.specs.Prelude.{◌≡◌, ◌<◌, ◌≤◌, ◌+◌, ◌^◌, IfOk, IfSome, Ok, drop, length, take};
 ghost use Rattle.std.specs.Thread.{IsSync};
-ghost use Rattle.std.specs.Io.KnownBytes.{Consumes};
-ghost use Rattle.rj_files.specs.Places.{FillsFrom, known_from};
+ghost use Rattle.rj_files.specs.Places.{FillsFrom};
 ghost use Rattle.rj_files.specs.Streams.{AreBytesOf};
 
 use crate::places::{PlacedReader, ReadAt, read_piece_at};
@@ -110,32 +109,7 @@ fn fill_by<R: Threads + Sync, F: ReadAt + Sync>(
     }
 }
 
-// The first bytes of a file that has about `size` bytes, read by this many threads: so many, unless
-// its end comes before. If there is no room for them at once, there are none.
-fn read_start<R: Threads + Sync, F: ReadAt + Sync>(
-    rt: &R,
-    alloc: Global,
-    file: &F,
-    size: usize,
-    threads: usize,
-) -> Result<Vec<u8>, ReadRefused>
-    ensures bytes { IfOk result (λ v. Consumes (F.bytes file.now) (known_from (length v.items) (F.bytes file.now)) v.items) }
-{
-    let Ok(mut bytes) = Vec::with_capacity(alloc, size.saturating_add(ROOM)) else {
-        return Ok(Vec::new(alloc));
-    };
-    if bytes.resize(size, 0).is_err() {
-        return Err(ReadRefused::Memory);
-    }
-    let Ok(filled) = fill_by(rt, file, threads, 0, bytes.as_mut_slice()) else {
-        return Err(ReadRefused::ReadDevice);
-    };
-    bytes.truncate(filled);
-    Ok(bytes)
-}
-
-/// All bytes of a file that has about `size` bytes, read by this many threads. What it has behind
-/// these is read by one.
+/// All bytes of a file that has about `size` bytes, read by this many threads.
 ///
 /// # Errors
 ///
@@ -149,8 +123,17 @@ pub(crate) fn read_by<R: Threads + Sync, F: ReadAt + Sync>(
 ) -> Result<Vec<u8>, ReadRefused>
     ensures bytes { IfOk result (λ v. AreBytesOf (F.bytes file.now) v.items) }
 {
-    let mut bytes = read_start(rt, alloc, file, size, threads)?;
-    let mut rest = CountedReader::new(PlacedReader::new(file, bytes.len() as u64));
+    let Ok(mut bytes) = Vec::with_capacity(alloc, size.saturating_add(ROOM)) else {
+        return Err(ReadRefused::Memory);
+    };
+    if bytes.resize(size, 0).is_err() {
+        return Err(ReadRefused::Memory);
+    }
+    let Ok(filled) = fill_by(rt, file, threads, 0, bytes.as_mut_slice()) else {
+        return Err(ReadRefused::ReadDevice);
+    };
+    bytes.truncate(filled);
+    let mut rest = CountedReader::new(PlacedReader::new(file, filled as u64));
     read_up_to(&mut rest, &mut bytes, usize::MAX)?;
     Ok(bytes)
 }
