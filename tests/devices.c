@@ -3,30 +3,23 @@
 
    DEVICE=read or DEVICE=write says which calls; DEVICE_FAILS_AT=N fails the Nth of them, counted from 1, with the
    error DEVICE_ERROR (0: it moves nothing, and that is no error); DEVICE_INTERRUPTS=N breaks N calls off before each
-   of them; DEVICE_MOST=N is the most bytes that one of them moves. DEVICE_REPORT=FILE is written where a call failed.
-   With DEVICE=read, DEVICE_SIZE_MORE=N is how many more bytes such a file tells to have than it has. Calls may come
-   from several threads. */
+   of them; DEVICE_MOST=N is the most bytes that one of them moves. DEVICE_REPORT=FILE is written where a call failed. */
 #define _GNU_SOURCE
 #include <dlfcn.h>
 #include <errno.h>
 #include <fcntl.h>
-#include <pthread.h>
 #include <stdio.h>
 #include <stdlib.h>
 #include <string.h>
-#include <sys/stat.h>
 #include <sys/uio.h>
 #include <unistd.h>
 
 static ssize_t (*next_read)(int, void *, size_t);
-static ssize_t (*next_pread)(int, void *, size_t, off_t);
 static ssize_t (*next_write)(int, const void *, size_t);
-static int (*next_statx)(int, const char *, int, unsigned, struct statx *);
 static int reads, writes;
-static long fails_at, error, interrupts, most, size_more;
+static long fails_at, error, interrupts, most;
 static const char *report;
 static long calls, broken_off;
-static pthread_mutex_t counts = PTHREAD_MUTEX_INITIALIZER;
 
 static long number(const char *name, long other)
 {
@@ -38,14 +31,11 @@ __attribute__((constructor)) static void begin(void)
 {
     const char *device = getenv("DEVICE");
     next_read = dlsym(RTLD_NEXT, "read");
-    next_pread = dlsym(RTLD_NEXT, "pread");
     next_write = dlsym(RTLD_NEXT, "write");
-    next_statx = dlsym(RTLD_NEXT, "statx");
     fails_at = number("DEVICE_FAILS_AT", 0);
     error = number("DEVICE_ERROR", EIO);
     interrupts = number("DEVICE_INTERRUPTS", 0);
     most = number("DEVICE_MOST", 1L << 40);
-    size_more = number("DEVICE_SIZE_MORE", 0);
     report = getenv("DEVICE_REPORT");
     reads = device && !strcmp(device, "read");
     writes = device && !strcmp(device, "write");
@@ -71,33 +61,22 @@ static void tell(void)
     }
 }
 
-/* Whether this call is broken off (1) or fails (2), or neither. */
-static int counted(void)
-{
-    int how = 0;
-    pthread_mutex_lock(&counts);
-    if (broken_off < interrupts) {
-        broken_off++;
-        how = 1;
-    } else {
-        broken_off = 0;
-        if (++calls == fails_at)
-            how = 2;
-    }
-    pthread_mutex_unlock(&counts);
-    return how;
-}
-
 /* Whether this call is broken off or fails, and then what it answers. */
 static int stops(ssize_t *answer)
 {
-    int how = counted();
-    if (!how)
+    if (broken_off < interrupts) {
+        broken_off++;
+        errno = EINTR;
+        *answer = -1;
+        return 1;
+    }
+    broken_off = 0;
+    calls++;
+    if (calls != fails_at)
         return 0;
-    if (how == 2)
-        tell();
-    errno = how == 1 ? EINTR : (int)error;
-    *answer = how == 1 || error ? -1 : 0;
+    tell();
+    errno = (int)error;
+    *answer = error ? -1 : 0;
     return 1;
 }
 
@@ -114,26 +93,6 @@ ssize_t read(int file, void *bytes, size_t size)
     if (!reads || !is_input(file))
         return next_read(file, bytes, size);
     return stops(&answer) ? answer : next_read(file, bytes, at_most(size));
-}
-
-ssize_t pread(int file, void *bytes, size_t size, off_t place)
-{
-    ssize_t answer;
-    if (!next_pread)
-        next_pread = dlsym(RTLD_NEXT, "pread");
-    if (!reads || !is_input(file))
-        return next_pread(file, bytes, size, place);
-    return stops(&answer) ? answer : next_pread(file, bytes, at_most(size), place);
-}
-
-int statx(int folder, const char *path, int flags, unsigned mask, struct statx *found)
-{
-    if (!next_statx)
-        next_statx = dlsym(RTLD_NEXT, "statx");
-    int answer = next_statx(folder, path, flags, mask, found);
-    if (!answer && reads && size_more && !*path && is_input(folder))
-        found->stx_size += (unsigned long long)size_more;
-    return answer;
 }
 
 ssize_t write(int file, const void *bytes, size_t size)

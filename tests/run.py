@@ -27,7 +27,6 @@ PARTS = (
     "soak",
     "examples",
     "devices",
-    "ranges",
     "sizes",
     "segments",
     "cluster",

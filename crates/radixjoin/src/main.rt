@@ -19,7 +19,6 @@ use rj_line::{Form, form_of};
 use std::env::Env;
 use std::fs::Files;
 use std::io::IsTerminal;
-use std::os::unix::fs::FileExt;
 use std::process::ExitCode;
 use std::sync::Wait;
 use std::thread::{self, Threads};
@@ -27,16 +26,11 @@ use std::time::Clock;
 
 // Does what the words of a line ask for, and shows its progress meanwhile. A thread of its own keeps
 // the line up to date; if none can be started, a line comes only where the run passes a place.
-fn write_watched<R>(
+fn write_watched<R: Files + Input + AllocGlobal + Print + Eprint + Threads + Wait + Clock + Sync>(
     rt: &R,
     line: &mut Line<'_>,
     terminals: Terminals,
-) -> Result<Written, ExplainedFault>
-where
-    R: Files + Input + AllocGlobal + Print + Eprint + Threads + Wait + Clock + Sync,
-    R::File: FileExt + Sync,
-    R::Reader: Sync,
-{
+) -> Result<Written, ExplainedFault> {
     let progress = Progress::of(rt, line, terminals);
     let (left, right) = (
         NamedStream::new(rt, line.left),
@@ -80,12 +74,11 @@ fn tell_joined<R: Eprint>(rt: &R, line: &Line<'_>, stats: &Stats) {
 }
 
 // Reads words with their lists of types, and writes what they ask for.
-fn join<R>(rt: &R, words: Vec<String>, terminals: Terminals) -> Result<(), ExplainedFault>
-where
-    R: Files + Input + AllocGlobal + Print + Eprint + Threads + Wait + Clock + Sync,
-    R::File: FileExt + Sync,
-    R::Reader: Sync,
-{
+fn join<R: Files + Input + AllocGlobal + Print + Eprint + Threads + Wait + Clock + Sync>(
+    rt: &R,
+    words: Vec<String>,
+    terminals: Terminals,
+) -> Result<(), ExplainedFault> {
     let alloc = rt.alloc();
     let words = read_lists(rt, words)?;
     let texts = texts_of(alloc, words.as_slice())?;
@@ -99,12 +92,11 @@ where
 }
 
 // Prints the types that a file's cells suggest, or why there are none, and returns the exit status.
-fn tell_types<R>(rt: &R, words: &[&str], asking: Asking) -> u8
-where
-    R: Files + Input + AllocGlobal + Print + Eprint + Clock,
-    R::File: FileExt + Sync,
-    R::Reader: Sync,
-{
+fn tell_types<R: Files + Input + AllocGlobal + Print + Eprint + Clock>(
+    rt: &R,
+    words: &[&str],
+    asking: Asking,
+) -> u8 {
     match suggest(rt, words, asking) {
         Ok(()) => 0,
         Err(e) => tell_explained_alone(rt, &mut &*rt, &e),
@@ -112,12 +104,10 @@ where
 }
 
 // Reads the command line, does what it asks for, and returns the exit status.
-fn run<R>(rt: &R, terminals: Terminals) -> Result<u8, ExplainedFault>
-where
-    R: Env + Files + Input + AllocGlobal + Print + Eprint + Threads + Wait + Clock + Sync,
-    R::File: FileExt + Sync,
-    R::Reader: Sync,
-{
+fn run<R: Env + Files + Input + AllocGlobal + Print + Eprint + Threads + Wait + Clock + Sync>(
+    rt: &R,
+    terminals: Terminals,
+) -> Result<u8, ExplainedFault> {
     let Some(words) = read_words(rt)? else {
         return Err(ExplainedFault::from(Fault::NotText));
     };

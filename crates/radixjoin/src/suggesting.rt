@@ -9,7 +9,6 @@ use rj_line::{Strictness, delimiter_of};
 use std::alloc::{AllocError, Global};
 use std::fs::Files;
 use std::io;
-use std::os::unix::fs::FileExt;
 use std::time::Clock;
 
 // What `--suggest-types --help` prints.
@@ -107,16 +106,11 @@ fn read_matches<'a>(
 }
 
 /// Prints the types that the cells of the file in these words suggest, which ask for it so.
-pub(crate) fn suggest<'a, R>(
+pub(crate) fn suggest<'a, R: Files + Input + AllocGlobal + Print + Eprint + Clock>(
     rt: &'a R,
     words: &'a [&'a str],
     asking: Asking,
-) -> Result<(), ExplainedFault>
-where
-    R: Files + Input + AllocGlobal + Print + Eprint + Clock,
-    R::File: FileExt + Sync,
-    R::Reader: Sync,
-{
+) -> Result<(), ExplainedFault> {
     let matches = match read_matches(rt.alloc(), words, asking) {
         Ok(matches) => matches,
         Err(error) => return Err(ExplainedFault::from(Fault::from(error))),

@@ -9,7 +9,6 @@ pub mod FaultFiles
 pub mod Labels
 pub mod Memory
 pub mod Outputs
-pub mod Places
 pub mod Readers
 pub mod Shares
 pub mod Streams

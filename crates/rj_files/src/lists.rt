@@ -111,7 +111,6 @@ fn read_file<R: Files + AllocGlobal>(rt: &R, name: &str, label: FileLabel) -> Re
             OpenStream {
                 reader,
                 likely_size,
-                has_places: _,
             },
         ) => read_bytes(rt.alloc(), reader, likely_size, label),
         Err(error) => Err(unopened(&error, label)),

@@ -6,12 +6,10 @@ ghost use Rattle.rj_files.specs.Readers.{remaining_of};
 ghost use Rattle.rj_files.specs.FaultFiles.{table_name};
 ghost use Rattle.rj_files.specs.Texts.{IsSystemLine, system_line};
 
-use crate::places::ReadAt;
 use crate::reading::{OpenStream, Stream};
 use std::alloc::{AllocError, Global};
 use std::fs::{self, Files, OpenFile};
-use std::io::{self, ErrorKind, Read};
-use std::os::unix::fs::FileExt;
+use std::io::{self, Read};
 
 /// Whether a name means standard input (of an input) or standard output (of an output).
 pub(crate) fn is_standard_stream(name: &str) -> bool
@@ -46,15 +44,6 @@ pub enum StreamReader<F, I> {
     Input(I),
 }
 
-impl<F: FileExt, I> ReadAt for StreamReader<F, I> {
-    fn read_at(&self, buffer: &mut [u8], place: u64) -> io::Result<usize> {
-        match self {
-            StreamReader::File(file) => file.read_at(buffer, place),
-            StreamReader::Input(_) => Err(io::Error::from(ErrorKind::Unsupported)),
-        }
-    }
-}
-
 impl<F: Read, I: Read> Read for StreamReader<F, I> {
     ghost remaining = { λ r. remaining_of F.remaining I.remaining r };
 
@@ -66,18 +55,16 @@ impl<F: Read, I: Read> Read for StreamReader<F, I> {
     }
 }
 
-/// A file, and about how many bytes it has, or 0 if that isn't known. A regular one can be read at
-/// places.
+/// A file, and about how many bytes it has, or 0 if that isn't known.
 pub(crate) fn open_file<R: Files>(rt: &R, name: &str) -> io::Result<OpenStream<R::File>> {
     let reader = fs::open(rt, name)?;
-    let (likely_size, has_places) = match reader.metadata() {
-        Ok(metadata) => (metadata.len(), metadata.is_file()),
-        Err(_) => (0, false),
+    let likely_size = match reader.metadata() {
+        Ok(metadata) => metadata.len(),
+        Err(_) => 0,
     };
     Ok(OpenStream {
         reader,
         likely_size,
-        has_places,
     })
 }
 
@@ -113,11 +100,7 @@ pub(crate) fn told_by_system(
     }
 }
 
-impl<R: Files + Input> Stream for NamedStream<'_, R>
-where
-    R::File: FileExt + Sync,
-    R::Reader: Sync,
-{
+impl<R: Files + Input> Stream for NamedStream<'_, R> {
     type Reader = StreamReader<R::File, R::Reader>;
 
     ghost explains = { λ s line. IsSystemLine (table_name s.name.now) line };
@@ -128,18 +111,15 @@ where
             return Ok(OpenStream {
                 reader,
                 likely_size: 0,
-                has_places: false,
             });
         }
         let OpenStream {
             reader,
             likely_size,
-            has_places,
         } = open_file(self.rt, self.name)?;
         Ok(OpenStream {
             reader: StreamReader::File(reader),
             likely_size,
-            has_places,
         })
     }
 

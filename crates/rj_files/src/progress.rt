@@ -504,16 +504,6 @@ impl<R: Clock + Eprint> Progress<'_, R> {
         }
     }
 
-    /// This many more bytes were read from a side's file, by one of several threads. It has about
-    /// `size` bytes.
-    pub(crate) fn read_more(&self, side: Side, more: u64, size: u64) {
-        let before = self.bytes_of(side).fetch_add(more, Ordering::SeqCst);
-        if self.is_due() {
-            let bytes = before.saturating_add(more);
-            self.show(Message::File { side, bytes, size });
-        }
-    }
-
     /// Something is about to be written. If that goes to a terminal, nothing is shown from now on.
     pub(crate) fn before_output(&self) {
         if self.shares_terminal {

@@ -1,30 +1,24 @@
 //! The bytes of a table, from a stream that is opened only when they are needed.
 
-ghost use Rattle.std.specs.Prelude.{◌≡◌, ◌≢◌, ◌⊎◌, ℕ, List, Option, None, IfOk, IfErr, string_bytes, true, ⊤};
+ghost use Rattle.std.specs.Prelude.{◌≡◌, ◌≢◌, ◌⊎◌, ℕ, List, Option, None, IfOk, IfErr, string_bytes, ⊤};
 ghost use Rattle.std.specs.Io.KnownBytes.{Keeps};
 ghost use Rattle.std.specs.IoError.{error_kind};
 ghost use Rattle.rj_files.specs.Labels.{IsUnreadOf, unread_fault};
 ghost use Rattle.rj_files.specs.Streams.{AreBytesOf, IsUnread};
 ghost use Rattle.rj_files.specs.Texts.{IsIndented};
 
-use crate::places::ReadAt;
 use crate::progress::Progress;
-use crate::ranges::read_by;
 use crate::watched::WatchedReader;
 use rj_csv_io::{CountedReader, ReadRefused, read_all};
 use rj_line::fault::{Fault, Side};
 use std::alloc::{AllocError, Global};
 use std::io::{self, ErrorKind, Read};
-use std::thread::Threads;
 use std::time::Clock;
-
-// Of at least this many bytes each thread reads a range.
-const LEAST: u64 = 4 << 20;
 
 /// A source of the bytes of a table.
 pub trait Stream {
     /// From what they are read.
-    type Reader: Read + ReadAt + Sync + Drop;
+    type Reader: Read + Drop;
 
     // The bytes, if they are known before it is opened.
     ghost tells: { Self → Option (List ℕ) } = { λ _. None };
@@ -38,8 +32,7 @@ pub trait Stream {
     ///
     /// The system's error if it can't be opened.
     fn open(&self) -> io::Result<OpenStream<Self::Reader>>
-        ensures bytes { IfOk result (λ opened. Keeps (tells self.now) (Self.Reader.remaining opened.reader)) }
-        ensures places { IfOk result (λ opened. opened.has_places ≡ true → Keeps (tells self.now) (Self.Reader.bytes opened.reader)) };
+        ensures { IfOk result (λ opened. Keeps (tells self.now) (Self.Reader.remaining opened.reader)) };
 
     /// A line, with two blanks in front, that explains why it can't be opened or read.
     ///
@@ -57,8 +50,6 @@ pub struct OpenStream<F> {
     pub reader: F,
     /// About how many bytes it has, or 0 if that isn't known. This is only a hint.
     pub likely_size: u64,
-    /// Whether its bytes can be read at places.
-    pub has_places: bool,
 }
 
 /// Whose file is read, as its errors tell: a table's, or the one that lists types of both.
@@ -120,32 +111,6 @@ pub(crate) fn read_bytes<F: Read + Drop>(
     }
 }
 
-// Opens the stream of a side's table. Its reader shows how far it is.
-fn open_watched<'a, R: Eprint + Clock, S: Stream>(
-    stream: &S,
-    side: Side,
-    progress: &'a Progress<'a, R>,
-) -> Result<OpenStream<WatchedReader<'a, R, S::Reader>>, Fault>
-    ensures bytes { IfOk result (λ opened. Keeps (S.tells stream.now) (S.Reader.remaining opened.reader.reader)) }
-    ensures places { IfOk result (λ opened. opened.has_places ≡ true → Keeps (S.tells stream.now) (S.Reader.bytes opened.reader.reader)) }
-    ensures fault { IfErr result (IsUnread side) }
-{
-    let OpenStream {
-        reader,
-        likely_size,
-        has_places,
-    } = match stream.open() {
-        Ok(opened) => opened,
-        Err(error) => return Err(unopened(&error, FileLabel::One(side))),
-    };
-    progress.begin_file(side, likely_size);
-    Ok(OpenStream {
-        reader: WatchedReader::new(progress, reader, side, likely_size),
-        likely_size,
-        has_places,
-    })
-}
-
 /// The bytes of a side's table, to their end. Meanwhile the progress shows how many were read.
 pub(crate) fn read_stream<R: Eprint + Clock, S: Stream>(
     alloc: Global,
@@ -156,58 +121,14 @@ pub(crate) fn read_stream<R: Eprint + Clock, S: Stream>(
     ensures bytes { IfOk result (λ v. AreBytesOf (S.tells stream.now) v.items) }
     ensures fault { IfErr result (IsUnread side) }
 {
-    let opened = match open_watched(stream, side, progress) {
-        Ok(opened) => opened,
-        Err(fault) => return Err(fault),
-    };
-    read_bytes(
-        alloc,
-        opened.reader,
-        opened.likely_size,
-        FileLabel::One(side),
-    )
-}
-
-// The bytes of a reader, to its end, as this many threads read them: each a range of them, if they
-// can be read at places and are many.
-fn read_opened<R: Threads + Sync, F: Read + ReadAt + Sync + Drop>(
-    rt: &R,
-    alloc: Global,
-    opened: OpenStream<F>,
-    threads: u32,
-    label: FileLabel,
-) -> Result<Vec<u8>, Fault>
-    ensures bytes { IfOk result (λ v. AreBytesOf (F.remaining opened.reader) v.items ⊎ ((opened.has_places ≡ true) × AreBytesOf (F.bytes opened.reader) v.items)) }
-    ensures fault { IfErr result (IsUnreadOf label) }
-{
     let OpenStream {
         reader,
         likely_size,
-        has_places,
-    } = opened;
-    if threads < 2 || !has_places || likely_size < LEAST {
-        return read_bytes(alloc, reader, likely_size, label);
-    }
-    match read_by(rt, alloc, &reader, likely_size as usize, threads as usize) {
-        Ok(whole) => Ok(whole),
-        Err(refused) => Err(unread(refused, label)),
-    }
-}
-
-/// Does the same by this many threads, if the stream is a large file.
-pub(crate) fn read_stream_by<R: Eprint + Clock + Threads + Sync, S: Stream>(
-    rt: &R,
-    alloc: Global,
-    stream: &S,
-    side: Side,
-    progress: &Progress<'_, R>,
-    threads: u32,
-) -> Result<Vec<u8>, Fault>
-    ensures bytes { IfOk result (λ v. AreBytesOf (S.tells stream.now) v.items) }
-    ensures fault { IfErr result (IsUnread side) }
-{
-    match open_watched(stream, side, progress) {
-        Ok(opened) => read_opened(rt, alloc, opened, threads, FileLabel::One(side)),
-        Err(fault) => Err(fault),
-    }
+    } = match stream.open() {
+        Ok(opened) => opened,
+        Err(error) => return Err(unopened(&error, FileLabel::One(side))),
+    };
+    progress.begin_file(side, likely_size);
+    let reader = WatchedReader::new(progress, reader, side, likely_size);
+    read_bytes(alloc, reader, likely_size, FileLabel::One(side))
 }

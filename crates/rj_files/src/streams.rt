@@ -11,7 +11,7 @@ use crate::explained::ExplainedFault;
 use crate::given::given_tables;
 use crate::joining::{Tables, Written, write_tables};
 use crate::progress::Progress;
-use crate::reading::{Stream, read_stream_by};
+use crate::reading::{Stream, read_stream};
 use crate::taking::complete_line;
 use rj_command::Line;
 use rj_line::fault::{Fault, Side};
@@ -38,7 +38,7 @@ fn unread_lines<S: Stream>(
 }
 
 // The bytes of a side's table, or why they can't be read, explained if that is asked for.
-fn read_side<R: AllocGlobal + Eprint + Threads + Clock + Sync, S: Stream>(
+fn read_side<R: AllocGlobal + Eprint + Clock, S: Stream>(
     rt: &R,
     line: &Line<'_>,
     progress: &Progress<'_, R>,
@@ -52,8 +52,7 @@ fn read_side<R: AllocGlobal + Eprint + Threads + Clock + Sync, S: Stream>(
     ensures told { IfErr result (λ e. e.is_told ≡ true) }
 {
     let alloc = rt.alloc();
-    let workers = line.request.settings.workers;
-    match read_stream_by(rt, alloc, stream, side, progress, workers) {
+    match read_stream(alloc, stream, side, progress) {
         Ok(bytes) => Ok(bytes),
         Err(fault) => {
             if !line.explain {
@@ -66,7 +65,7 @@ fn read_side<R: AllocGlobal + Eprint + Threads + Clock + Sync, S: Stream>(
 }
 
 // The bytes of both tables. The right one is opened when the left one was read to its end.
-fn read_both<R: AllocGlobal + Eprint + Threads + Clock + Sync, L: Stream, S: Stream>(
+fn read_both<R: AllocGlobal + Eprint + Clock, L: Stream, S: Stream>(
     rt: &R,
     line: &Line<'_>,
     progress: &Progress<'_, R>,

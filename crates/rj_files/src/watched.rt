@@ -2,7 +2,6 @@
 
 ghost use Rattle.std.specs.Prelude.{◌≡◌};
 
-use crate::places::ReadAt;
 use crate::progress::Progress;
 use rj_line::fault::Side;
 use std::io::{self, Read, Write};
@@ -47,16 +46,6 @@ impl<R: Clock + Eprint, S: Read> Read for WatchedReader<'_, R, S> {
         let read = self.reader.read(buffer)?;
         self.read = self.read.saturating_add(read as u64);
         self.progress.read(self.side, self.read, self.size);
-        Ok(read)
-    }
-}
-
-impl<R: Clock + Eprint, S: ReadAt> ReadAt for WatchedReader<'_, R, S> {
-    ghost bytes = { λ w. S.bytes w.reader };
-
-    fn read_at(&self, buffer: &mut [u8], place: u64) -> io::Result<usize> {
-        let read = self.reader.read_at(buffer, place)?;
-        self.progress.read_more(self.side, read as u64, self.size);
         Ok(read)
     }
 }
